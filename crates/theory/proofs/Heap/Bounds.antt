@@ -1,0 +1,116 @@
+-- The bounds u(1), .., u(B): what holds of them, what they are at first, and what a removal makes of them.
+use Prim.Native.Nat.{ℕ, zero, suc, _+_, _-_, _≤_, _<_, min}
+use native.Mathlib.Omega.{arith}
+use mathlib.Core.Path.{_≡_, refl, _∙_}
+use mathlib.Core.Logic.{inl, inr}
+use mathlib.Core.List.{List, _∷_}
+use lib.ListN.{length, set, length-set}
+use lib.Seq.{getD-set-same, getD-set-other}
+use Rattle.theory.specs.Shape.{Shape}
+use Rattle.theory.specs.Heap.{bound, rebound, boundsAfter, boundsFrom, firstBounds}
+use Rattle.theory.proofs.Cases.{split}
+use Rattle.theory.proofs.Heap.Laws.{total, total-mono, Lawful}
+
+-- Sound bounds, when the last node scanned had distance `last`.
+pub record Bounds (sh : Shape) (last : ℕ) (u : List ℕ) : Type 0 where
+  pub long : length u ≡ suc (sh .buckets)
+  pub top : bound u (sh .buckets) ≡ sh .top
+  pub rise : (i k : ℕ) → 1 ≤ i → i ≤ k → k ≤ sh .buckets → bound u i ≤ bound u k
+  pub range : (i : ℕ) → 1 ≤ i → suc i < sh .buckets → bound u (suc i) ≤ bound u i + sh .size (suc i)
+  pub first : bound u 1 < last + sh .size 1
+  pub reach : last ≤ bound u 1
+
+-- The first bounds: u(p) = min(size(1) + .. + size(p) - 1, u(B)).
+module _ (sh : Shape) where
+  boundsFrom-length : (i sum left : ℕ) → length (boundsFrom sh i sum left) ≡ suc left
+  unfolding boundsFrom
+  boundsFrom-length i sum zero = refl
+  boundsFrom-length i sum (suc left) = let ih = boundsFrom-length (suc i) (sum + sh .size i) left in omega arith
+
+  boundsFrom-last : (i sum left : ℕ) → bound (boundsFrom sh i sum left) left ≡ sh .top
+  unfolding boundsFrom
+  boundsFrom-last i sum zero = refl
+  boundsFrom-last i sum (suc left) = boundsFrom-last (suc i) (sum + sh .size i) left
+
+  boundsFrom-at : (i left q p : ℕ) → q < left → p ≡ suc (i + q) → bound (boundsFrom sh (suc i) (total sh i) left) q ≡ min (total sh p - 1) (sh .top)
+  unfolding boundsFrom total
+  boundsFrom-at i zero q p h e = absurd (omega arith)
+  boundsFrom-at i (suc left) zero p h e = let q : p ≡ suc i = omega arith in rw q
+  boundsFrom-at i (suc left) (suc q) p h e = boundsFrom-at (suc i) left q p (omega arith) (omega arith)
+
+  pub first-at : (p : ℕ) → 1 ≤ p → p < sh .buckets → bound (firstBounds sh) p ≡ min (total sh p - 1) (sh .top)
+  unfolding firstBounds total
+  first-at zero l h = absurd (omega arith)
+  first-at (suc q) l h = boundsFrom-at 0 (sh .buckets - 1) q (suc q) (omega arith) (omega arith)
+
+  pub first-top : 2 ≤ sh .buckets → bound (firstBounds sh) (sh .buckets) ≡ sh .top
+  unfolding firstBounds
+  first-top two = go (sh .buckets) (omega arith)
+    where
+      go : (b : ℕ) → b ≡ suc (sh .buckets - 1) → bound (0 ∷ boundsFrom sh 1 0 (sh .buckets - 1)) b ≡ sh .top
+      go b e = rw e (boundsFrom-last 1 0 (sh .buckets - 1))
+
+pub bounds-first : {sh : Shape} {C S : ℕ} → Lawful sh C S → Bounds sh 0 (firstBounds sh)
+unfolding firstBounds total
+bounds-first {sh} law = record {
+  long = omega (arith, boundsFrom-length sh 1 0 (sh .buckets - 1), law .two);
+  top = first-top sh (law .two);
+  rise = λ i k l m h. elim (split k (sh .buckets)) [
+    | inl g ↦ omega (arith, first-at sh i l (omega arith), first-at sh k (omega arith) g, total-mono sh i k m)
+    | inr g ↦ let q : k ≡ sh .buckets = omega arith in elim (split i (sh .buckets)) [
+      | inl f ↦ rw q (omega (arith, first-at sh i l f, first-top sh (law .two)))
+      | inr f ↦ let r : i ≡ k = omega arith in rw r (omega arith)
+    ]
+  ];
+  range = λ i l h. omega (arith, first-at sh i l (omega arith), first-at sh (suc i) (omega arith) h, law .sizes 1, total-mono sh 1 i l);
+  first = omega (arith, first-at sh 1 (omega arith) (law .two), law .sizes 1);
+  reach = omega arith;
+}
+
+-- Setting bounds anew: those from i on, `left` of them, and no others.
+module _ (sh : Shape) (t : ℕ) where
+  rebound-length : (last i left : ℕ) (u : List ℕ) → length (rebound sh t last i left u) ≡ length u
+  unfolding rebound
+  rebound-length last i zero u = refl
+  rebound-length last i (suc left) u = rebound-length (min (last + sh .size i) t) (suc i) left _ ∙ length-set u i _
+
+  rebound-before : (last i left : ℕ) (u : List ℕ) (p : ℕ) → p < i → bound (rebound sh t last i left u) p ≡ bound u p
+  unfolding rebound
+  rebound-before last i zero u p h = refl
+  rebound-before last i (suc left) u p h =
+      rebound-before (min (last + sh .size i) t) (suc i) left _ p (omega arith) ∙ getD-set-other u i p _ 0 (omega arith)
+
+  rebound-after : (last i left : ℕ) (u : List ℕ) (p : ℕ) → i + left ≤ p → bound (rebound sh t last i left u) p ≡ bound u p
+  unfolding rebound
+  rebound-after last i zero u p h = refl
+  rebound-after last i (suc left) u p h =
+      rebound-after (min (last + sh .size i) t) (suc i) left _ p (omega arith) ∙ getD-set-other u i p _ 0 (omega arith)
+
+  rebound-at : (a last i left : ℕ) (u : List ℕ) (p : ℕ) → last ≡ min (a + total sh i) t → i + left < length u → i < p → p ≤ i + left
+      → bound (rebound sh t last (suc i) left u) p ≡ min (a + total sh p) t
+  unfolding rebound total
+  rebound-at a last i zero u p e long h k = absurd (omega arith)
+  rebound-at a last i (suc left) u p e long h k =
+      let y : ℕ = min (last + sh .size (suc i)) t in
+      let y-is : y ≡ min (a + total sh (suc i)) t = omega arith in
+      elim (split (suc i) p) [
+        | inl l ↦ rebound-at a y (suc i) left (set u (suc i) y) p y-is (rw length-set (omega arith)) l (omega arith)
+        | inr l ↦ let q : p ≡ suc i = omega arith in rw q
+            (rebound-before y (suc (suc i)) left (set u (suc i) y) (suc i) (omega arith) ∙ getD-set-same u (suc i) y 0 (omega arith) ∙ y-is)
+      ]
+
+-- After a removal from segment k of bucket j with smallest key d, u(p) = min(d - 1 + size(1) + .. + size(p), the segment's end) below j,
+-- and u(p) is unchanged from j on.
+module _ (sh : Shape) (j k d : ℕ) (u : List ℕ) (low : 1 ≤ j) where
+  pub after-length : length (boundsAfter sh j k d u) ≡ length u
+  unfolding boundsAfter
+  after-length = rebound-length sh (sh .end j (bound u j) k) (d - 1) 1 (j - 1) u
+
+  pub after-same : (p : ℕ) → j ≤ p → bound (boundsAfter sh j k d u) p ≡ bound u p
+  unfolding boundsAfter
+  after-same p h = rebound-after sh (sh .end j (bound u j) k) (d - 1) 1 (j - 1) u p (omega arith)
+
+  pub after-at : j < length u → d ≤ sh .end j (bound u j) k → (p : ℕ) → 1 ≤ p → p < j
+      → bound (boundsAfter sh j k d u) p ≡ min (d - 1 + total sh p) (sh .end j (bound u j) k)
+  unfolding boundsAfter total
+  after-at long e p l h = rebound-at sh (sh .end j (bound u j) k) (d - 1) (d - 1) 0 (j - 1) u p (omega arith) (omega arith) l (omega arith)

@@ -1,0 +1,132 @@
+-- The counts. A labelled node may still be shifted once for each bucket below its own: these, summed, are the potential.
+use Prim.Native.Nat.{ℕ, suc, _+_, _-_, _*_, _≤_, _<_}
+use native.Mathlib.Omega.{arith}
+use mathlib.Core.Path.{_≡_, refl, ap}
+use mathlib.Core.Bool.{Bool, true, false}
+use mathlib.Core.Logic.{inl, inr, _≢_, ⊎-elim}
+use mathlib.Core.List.{List}
+use lib.ListN.{length, length-append}
+use lib.Seq.{getD-set-same, getD-set-other}
+use Rattle.theory.specs.Sums.{sumBelow}
+use Rattle.theory.specs.Network.{Network}
+use Rattle.theory.specs.Shape.{Shape}
+use Rattle.theory.specs.Search.{Mark, unlabelled, labelled, scanned, mark, asLabelled, inserted, label, remove}
+use Rattle.theory.specs.Heap.{Heap, bound, bucketOf, keyOf, bucketFrom, searchStart, bucketFor, segmentOf, shifts?, moveLabelled, moveMarked, move, heapLabel, heapRemove}
+use Rattle.theory.proofs.Cases.{same?, labelled≢scanned}
+use Rattle.theory.proofs.Sums.{sum-change, sum-add, sum-mono}
+use Rattle.theory.proofs.Search.Nearest.{Labelled, Least}
+use Rattle.theory.proofs.Search.Invariant.{AtRest}
+use Rattle.theory.proofs.Search.Scanning.{remove-here, remove-other}
+use Rattle.theory.proofs.Heap.Laws.{Lawful}
+use Rattle.theory.proofs.Heap.Buckets.{Fits}
+use Rattle.theory.proofs.Heap.Shift.{seg, after}
+use Rattle.theory.proofs.Heap.Invariant.{HeapInv}
+use Rattle.theory.proofs.Heap.Remove.{Shifts, shifts-true, falls, removed-bucket}
+use Rattle.theory.proofs.Heap.Label.{Labelling, put}
+
+abbrev pub weight : Mark → ℕ → ℕ
+weight unlabelled b = 0
+weight labelled b = b - 1
+weight scanned b = 0
+
+abbrev pub weightOf : Heap → ℕ → ℕ
+weightOf h v = weight (mark (h .search) v) (bucketOf h v)
+
+abbrev pub potential : Network → Heap → ℕ
+potential N h = sumBelow (N .nodes) (weightOf h)
+
+pub record Counted (N : Network) (sh : Shape) (S : ℕ) (h : Heap) : Type 0 where
+  pub shifts : potential N h + h .shifts + h .search .insertions ≤ h .search .insertions * sh .buckets
+  pub looks : h .looks ≤ length (h .search .roster) * (sh .buckets + S)
+
+-- An insertion or a decrease.
+module _ {N : Network} {sh : Shape} {C S : ℕ} (law : Lawful sh C S) {last : ℕ} {h : Heap} (inv : HeapInv N sh last h) (c : Counted N sh S h)
+    {v x : ℕ} (lab : Labelling N sh h v x) (a : ℕ) where
+  abbrev labelled-heap : Heap
+  labelled-heap = heapLabel sh v x a h
+
+  weight-here : weightOf labelled-heap v ≡ weight (asLabelled (mark (h .search) v)) (bucketFor sh v x h)
+  unfolding heapLabel label
+  weight-here = rw (
+    getD-set-same (h .search .marks) v (asLabelled (mark (h .search) v)) unlabelled (omega (arith, lab .marks, lab .node)),
+    getD-set-same (h .buckets) v (bucketFor sh v x h) 0 (omega (arith, inv .buckets, lab .node)),
+  )
+
+  weight-other : (w : ℕ) → w ≢ v → weightOf labelled-heap w ≡ weightOf h w
+  unfolding heapLabel label
+  weight-other w n = rw (getD-set-other (h .search .marks) v w (asLabelled (mark (h .search) v)) unlabelled n, getD-set-other (h .buckets) v w (bucketFor sh v x h) 0 n)
+
+  potential-label : potential N labelled-heap + weightOf h v ≡ potential N h + weight (asLabelled (mark (h .search) v)) (bucketFor sh v x h)
+  potential-label = rw weight-here at (sum-change (N .nodes) v (weightOf h) (weightOf labelled-heap) (lab .node) weight-other)
+
+  pub count-label : Counted N sh S labelled-heap
+  unfolding heapLabel label
+  count-label = record {
+    shifts = go (mark (h .search) v) (put law inv lab .1) (lab .unscanned) (potential N labelled-heap) potential-label;
+    looks = c .looks;
+  }
+    where
+      go : (m : Mark) → bucketFrom (h .bounds) x (searchStart sh m (bucketOf h v)) ≤ searchStart sh m (bucketOf h v) → m ≢ scanned → (p : ℕ)
+          → p + weight m (bucketOf h v) ≡ potential N h + weight (asLabelled m) (bucketFrom (h .bounds) x (searchStart sh m (bucketOf h v)))
+          → p + h .shifts + (h .search .insertions + inserted m) ≤ (h .search .insertions + inserted m) * sh .buckets
+      go unlabelled f new p e = omega (arith, c .shifts, law .two)
+      go labelled f new p e = omega (arith, c .shifts)
+      go scanned f new p e = absurd (new refl)
+
+-- What a removal does to one node: a shift takes one from its weight at the least.
+one-move : (m : Mark) (t : Bool) (b b′ : ℕ) → (m ≡ labelled → t ≡ true → (1 ≤ b′) × (b′ < b))
+    → weight m (moveMarked m t b b′ .bucket) + moveMarked m t b b′ .shifts ≤ weight m b
+one-move unlabelled t b b′ fall = omega arith
+one-move labelled true b b′ fall = omega (arith, fall refl refl)
+one-move labelled false b b′ fall = omega arith
+one-move scanned t b b′ fall = omega arith
+
+no-move : (m : Mark) (t : Bool) (b b′ : ℕ) → (t ≡ true → ⊥) → moveMarked m t b b′ .shifts ≡ 0
+no-move unlabelled t b b′ not = refl
+no-move labelled true b b′ not = absurd (not refl)
+no-move labelled false b b′ not = refl
+no-move scanned t b b′ not = refl
+
+-- A removal: each shift takes one from the potential at the least.
+module _ {N : Network} {sh : Shape} {C S : ℕ} (law : Lawful sh C S) {last : ℕ} {h : Heap} (rest : AtRest N C last (h .search)) (inv : HeapInv N sh last h) (c : Counted N sh S h)
+    {j d w : ℕ} (fit : Fits sh (h .bounds) j d) (min : Least (h .search) w d) where
+  abbrev k : ℕ
+  k = seg sh (h .bounds) j d
+
+  abbrev removed-heap : Heap
+  removed-heap = heapRemove sh j k d w h
+
+  abbrev moved : ℕ → ℕ
+  moved v = move sh (after sh (h .bounds) j d) j k w h v .shifts
+
+  weight-self : weightOf removed-heap w + moved w ≤ weightOf h w
+  unfolding heapRemove move
+  weight-self = rw (remove-here rest min) (omega (
+    arith,
+    no-move (mark (h .search) w) (shifts? j k w w (bucketOf h w) (segmentOf sh h w)) (bucketOf h w)
+        (bucketFrom (after sh (h .bounds) j d) (keyOf h w) (bucketOf h w))
+        (λ e. let s : Shifts j k w w (bucketOf h w) (segmentOf sh h w) = shifts-true e in s .other refl),
+  ))
+
+  weight-other-moved : (v : ℕ) → v < N .nodes → v ≢ w → weightOf removed-heap v + moved v ≤ weightOf h v
+  unfolding heapRemove move
+  weight-other-moved v l n = rw (removed-bucket law rest inv fit min v l, remove-other rest min v n)
+      (one-move (mark (h .search) v) (shifts? j k w v (bucketOf h v) (segmentOf sh h v)) (bucketOf h v)
+      (bucketFrom (after sh (h .bounds) j d) (keyOf h v) (bucketOf h v))
+      (λ on t. let r = falls law rest inv fit min v on (shifts-true t) in (r .0 .low, r .1)))
+
+  weight-moved : (v : ℕ) → v < N .nodes → weightOf removed-heap v + moved v ≤ weightOf h v
+  weight-moved v l = ⊎-elim (λ e. rw e weight-self) (weight-other-moved v l) (same? v w)
+
+  pub count-remove : Counted N sh S removed-heap
+  unfolding heapRemove remove
+  count-remove = record {
+    shifts = let e : sumBelow (length (h .buckets)) moved ≡ sumBelow (N .nodes) moved = ap (λ (n : ℕ). sumBelow n moved) (inv .buckets) in
+        omega (
+          arith,
+          c .shifts,
+          sum-mono (N .nodes) (λ v. weightOf removed-heap v + moved v) (weightOf h) weight-moved,
+          sum-add (N .nodes) (weightOf removed-heap) moved,
+        );
+    looks = simp length-append (omega (arith, c .looks, fit .high, law .looked j (bound (h .bounds) j) d));
+  }

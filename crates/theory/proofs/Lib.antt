@@ -1,0 +1,9 @@
+pub mod Cases
+pub mod Sums
+pub mod Lists
+pub mod Search
+pub mod Heap
+pub mod Shapes
+pub mod Maps
+pub mod Demands
+pub mod Edges

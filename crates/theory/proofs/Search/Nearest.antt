@@ -1,0 +1,127 @@
+-- `nearest` chooses the labelled node of smallest distance, and of smallest number among equals; there is one such node.
+use Prim.Native.Nat.{ℕ, zero, suc, _≤_, _<_}
+use mathlib.Core.Path.{_≡_, refl, sym, _∙_}
+use mathlib.Core.Logic.{inl, inr}
+use mathlib.Core.Bool.{Bool, true, false, cond}
+use native.Mathlib.Omega.{arith}
+use lib.ListN.{length}
+use lib.Dec.{ltb}
+use borrow.Author.Tests.{ltb-true, ltb-false}
+use Rattle.theory.specs.Search.{Mark, unlabelled, labelled, scanned, Search, mark, distance, Choice, nothing, chosen, nearer, consider, nearest}
+use Rattle.theory.proofs.Cases.{split, differ, labelled≢scanned, labelled≢unlabelled}
+use Rattle.theory.proofs.Lists.{inside}
+
+-- Of the numbers in a set, v is the one of smallest key d, and the smallest of those.
+pub record LeastOf (Member : ℕ → Type 0) (keys : ℕ → ℕ) (v d : ℕ) : Type 0 where
+  pub member : Member v
+  pub key : keys v ≡ d
+  pub least : (w : ℕ) → Member w → d ≤ keys w
+  pub first : (w : ℕ) → Member w → keys w ≡ d → v ≤ w
+
+abbrev pub Labelled : Search → ℕ → Type 0
+Labelled s v = mark s v ≡ labelled
+
+abbrev pub LabelledBelow : Search → ℕ → ℕ → Type 0
+LabelledBelow s n v = (v < n) × Labelled s v
+
+-- v is the labelled node of smallest distance d, and of smallest number among equals.
+abbrev pub Least : Search → (v d : ℕ) → Type 0
+Least s v d = LeastOf (Labelled s) (distance s) v d
+
+pub least-unique : (s : Search) {v w d e : ℕ} → Least s v d → Least s w e → (v ≡ w) × (d ≡ e)
+least-unique s {v} {w} {d} {e} a b =
+    let q : d ≡ e = omega (arith, a .least w (b .member), b .least v (a .member), a .key, b .key) in
+    (omega (arith, a .first w (b .member) (b .key ∙ sym q), b .first v (a .member) (a .key ∙ q)), q)
+
+-- What a choice says of the nodes below n.
+pub data Chosen (s : Search) (n : ℕ) : Choice → Type 0 where
+  empty : ((w : ℕ) → w < n → Labelled s w → ⊥) → Chosen s n nothing
+  least : {v d : ℕ} → LeastOf (LabelledBelow s n) (distance s) v d → Chosen s n (chosen v d)
+
+module _ (s : Search) (v : ℕ) where
+  -- A node that is not labelled changes nothing.
+  pass : (mark s v ≡ labelled → ⊥) → {c : Choice} → Chosen s v c → Chosen s (suc v) c
+  pass not (empty h) = empty (λ w l on. elim (split w v) [
+    | inl k ↦ h w k on
+    | inr k ↦ let e : w ≡ v = omega arith in not (rw e at on)
+  ])
+  pass not (least {v = x} {d} a) = least {v = x} {d = d} (record {
+    member = (omega (arith, a .member .0), a .member .1);
+    key = a .key;
+    least = λ w m. elim (split w v) [ inl k ↦ a .least w (k, m .1) | inr k ↦ let e : w ≡ v = omega (arith, m .0) in absurd (not (rw e at (m .1))) ];
+    first = λ w m q. elim (split w v) [ inl k ↦ a .first w (k, m .1) q | inr k ↦ omega (arith, a .member .0) ];
+  })
+
+  take : Labelled s v → {c : Choice} → Chosen s v c → Chosen s (suc v) (nearer v (distance s v) c)
+  take on (empty h) = least {v = v} {d = distance s v} (record {
+    member = (omega arith, on);
+    key = refl;
+    least = λ w m. elim (split w v) [ inl k ↦ absurd (h w k (m .1)) | inr k ↦ let e : w ≡ v = omega (arith, m .0) in rw e (omega arith) ];
+    first = λ w m q. elim (split w v) [ inl k ↦ absurd (h w k (m .1)) | inr k ↦ k ];
+  })
+  take on (least {v = x} {d} a) = go (ltb (distance s v) d) refl
+    where
+      go : (t : Bool) → ltb (distance s v) d ≡ t → Chosen s (suc v) (cond t (chosen v (distance s v)) (chosen x d))
+      go true t = let less = ltb-true (distance s v) d t in least {v = v} {d = distance s v} (record {
+        member = (omega arith, on);
+        key = refl;
+        least = λ w m. elim (split w v) [ inl k ↦ omega (arith, a .least w (k, m .1)) | inr k ↦ let e : w ≡ v = omega (arith, m .0) in rw e (omega arith) ];
+        first = λ w m q. elim (split w v) [ inl k ↦ absurd (omega (arith, a .least w (k, m .1))) | inr k ↦ k ];
+      })
+      go false t = let more = ltb-false (distance s v) d t in least {v = x} {d = d} (record {
+        member = (omega (arith, a .member .0), a .member .1);
+        key = a .key;
+        least = λ w m. elim (split w v) [ inl k ↦ a .least w (k, m .1) | inr k ↦ let e : w ≡ v = omega (arith, m .0) in rw e more ];
+        first = λ w m q. elim (split w v) [ inl k ↦ a .first w (k, m .1) q | inr k ↦ omega (arith, a .member .0) ];
+      })
+
+  step : {c : Choice} → Chosen s v c → Chosen s (suc v) (consider (mark s v) v (distance s v) c)
+  step {c} h = go (mark s v) refl
+    where
+      go : (m : Mark) → mark s v ≡ m → Chosen s (suc v) (consider m v (distance s v) c)
+      go unlabelled e = pass (λ q. labelled≢unlabelled (sym q ∙ e)) h
+      go labelled e = take e h
+      go scanned e = pass (λ q. labelled≢scanned (sym q ∙ e)) h
+
+chosen-below : (s : Search) (n : ℕ) → Chosen s n (nearest s n)
+unfolding nearest
+chosen-below s zero = empty (λ w l on. omega arith)
+chosen-below s (suc v) = step s v (chosen-below s v)
+
+-- What a choice says of all nodes.
+abbrev pub Right : Search → Choice → Type 0
+Right s nothing = (v : ℕ) → Labelled s v → ⊥
+Right s (chosen v d) = Least s v d
+
+pub labelled-inside : (s : Search) (v : ℕ) → Labelled s v → v < length (s .marks)
+labelled-inside s v on = inside (s .marks) v unlabelled (λ e. labelled≢unlabelled (sym on ∙ e))
+
+pub nearest-right : (s : Search) (n : ℕ) → length (s .marks) ≡ n → Right s (nearest s n)
+nearest-right s n long = go (nearest s n) (chosen-below s n)
+  where
+    in-range : (w : ℕ) → Labelled s w → w < n
+    in-range w on = omega (arith, labelled-inside s w on)
+
+    go : (c : Choice) → Chosen s n c → Right s c
+    go nothing (empty h) = λ w on. h w (in-range w on) on
+    go (chosen v d) (least a) = record {
+      member = a .member .1;
+      key = a .key;
+      least = λ w on. a .least w (in-range w on, on);
+      first = λ w on q. a .first w (in-range w on, on) q;
+    }
+
+-- The one such node is the one that is chosen.
+pub nearest-is : (s : Search) (n v d : ℕ) → length (s .marks) ≡ n → Least s v d → nearest s n ≡ chosen v d
+nearest-is s n v d long a = go (nearest s n) (nearest-right s n long)
+  where
+    go : (c : Choice) → Right s c → c ≡ chosen v d
+    go nothing h = absurd (h v (a .member))
+    go (chosen w e) h = let q = least-unique s a h in cc (q .0, q .1)
+
+pub nearest-nothing : (s : Search) (n : ℕ) → length (s .marks) ≡ n → ((v : ℕ) → Labelled s v → ⊥) → nearest s n ≡ nothing
+nearest-nothing s n long no-one = go (nearest s n) (nearest-right s n long)
+  where
+    go : (c : Choice) → Right s c → c ≡ nothing
+    go nothing h = refl
+    go (chosen w e) h = absurd (no-one w (h .member))

@@ -1,0 +1,83 @@
+-- Maps, and routes over them with their costs (document 01, "What the planner holds and leaves out" and "Routes").
+use Prim.Native.Nat.{ℕ, suc, _+_, _≤_, _<_}
+use mathlib.Core.Path.{_≡_}
+use mathlib.Core.List.{List, [], _∷_, _++_}
+use lib.ListN.{length, getD}
+
+-- The mark for "none", document 01's own term: the distance of an unreached node, and the parent of the source and of
+-- unreached nodes (document 01, "What the planner holds and leaves out").
+abbrev pub none : ℕ
+none = 4294967295
+
+-- A map, lent as three lists of words (document 01, "What the planner holds and leaves out").
+pub record Map : Type 0 where
+  -- n
+  pub nodes : ℕ
+  pub starts : List ℕ
+  pub heads : List ℕ
+  pub costs : List ℕ
+
+-- m, the number of arcs (document 01, "What the planner holds and leaves out").
+abbrev pub arcs : Map → ℕ
+arcs M = length (M .heads)
+
+-- starts[v], the head and the cost of arc a (document 01, "What the planner holds and leaves out").
+abbrev pub startOf : Map → ℕ → ℕ
+startOf M v = getD (M .starts) v 0
+
+abbrev pub headOf : Map → ℕ → ℕ
+headOf M a = getD (M .heads) a 0
+
+abbrev pub costOf : Map → ℕ → ℕ
+costOf M a = getD (M .costs) a 0
+
+-- Arc a leaves node v: it is one of the numbers starts[v] up to but not including starts[v + 1] (document 01, "What the
+-- planner holds and leaves out").
+abbrev pub Leaves : Map → (a v : ℕ) → Type 0
+Leaves M a v = (startOf M v ≤ a) × (a < startOf M (suc v))
+
+-- The arcs of a list, in the order of travel, are a route from the first node to the second: each leaves the node at which the one
+-- before it arrives (document 01, "Routes").
+pub data Route (M : Map) : ℕ → List ℕ → ℕ → Type 0 where
+  here : {v : ℕ} → Route M v [] v
+  along : {v w : ℕ} {route : List ℕ} (a : ℕ) → Leaves M a v → Route M (headOf M a) route w → Route M v (a ∷ route) w
+
+-- A route costs the sum of its arcs' costs (document 01, "Routes").
+unfoldable pub routeCost : Map → List ℕ → ℕ
+routeCost M [] = 0
+routeCost M (a ∷ route) = costOf M a + routeCost M route
+
+-- A node is reached exactly if it is the source or a path leads to it from the source (document 01, "The tallies"); to the
+-- source leads the route of no arc.
+abbrev pub Reached : Map → (source v : ℕ) → Type 0
+Reached M source v = (route : List ℕ) × Route M source route v
+
+-- The parent word of node v; a missing word is none, which is no arc (document 01, "What the planner holds and leaves out").
+abbrev pub parentOf : List ℕ → ℕ → ℕ
+parentOf parents v = getD parents v none
+
+-- The distance of node v; a missing word is none.
+abbrev pub distanceOf : List ℕ → ℕ → ℕ
+distanceOf distances v = getD distances v none
+
+-- A list of arcs is what the parent table spells out for node v, found from the last arc back. The walk back stops at the
+-- source (document 01, "Routes").
+pub data SpelledRoute (M : Map) (source : ℕ) (parents : List ℕ) : ℕ → List ℕ → Type 0 where
+  here : SpelledRoute M source parents source []
+  on : {t : ℕ} {route : List ℕ} → SpelledRoute M source parents t route → (a : ℕ) → Leaves M a t → parentOf parents (headOf M a) ≡ a
+      → (source ≡ headOf M a → ⊥) → SpelledRoute M source parents (headOf M a) (route ++ (a ∷ []))
+
+-- A map, a ceiling C and a source that a run does not refuse by numbers 1 to 8 (document 01, "What a call returns").
+pub record Valid (M : Map) (C source : ℕ) : Type 0 where
+  pub some-node : 1 ≤ M .nodes
+  pub few-nodes : M .nodes ≤ 4096
+  pub low-ceiling : C ≤ 1048575
+  pub source-node : source < M .nodes
+  pub few-arcs : arcs M ≤ 65536
+  pub costs-length : length (M .costs) ≡ arcs M
+  pub starts-length : length (M .starts) ≡ suc (M .nodes)
+  pub starts-first : startOf M 0 ≡ 0
+  pub starts-rise : (v : ℕ) → v < M .nodes → startOf M v ≤ startOf M (suc v)
+  pub starts-last : startOf M (M .nodes) ≡ arcs M
+  pub heads-nodes : (a : ℕ) → a < arcs M → headOf M a < M .nodes
+  pub costs-most : (a : ℕ) → a < arcs M → costOf M a ≤ C

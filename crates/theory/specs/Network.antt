@@ -1,0 +1,62 @@
+-- A map as a search sees it: for each node the links that leave it, in order. Every theorem on the search and on the heaps is
+-- about networks; what makes a network of a map is the one place where words become links (document 000, section 1).
+use Prim.Native.Nat.{ℕ, zero, suc, _+_, _-_, _*_, _<_, _≤_}
+use mathlib.Core.Path.{_≡_}
+use mathlib.Core.List.{List, [], _∷_, _++_, List·Memᴰ}
+use lib.ListN.{length}
+use Rattle.theory.specs.Sums.{sumBelow}
+use Rattle.theory.specs.Maps.{none, Map, arcs, startOf, headOf, costOf, parentOf}
+
+-- One arc, as its tail sees it.
+pub record Link : Type 0 where
+  pub arc : ℕ
+  pub head : ℕ
+  pub cost : ℕ
+
+-- Nodes below `nodes`, a source, and for each node its links in the order in which a scan takes them.
+pub record Network : Type 0 where
+  pub nodes : ℕ
+  pub source : ℕ
+  pub out : ℕ → List Link
+
+-- The links of the arcs a, a + 1, .., `count` of them, each arc's as `give` has them.
+unfoldable pub linksFrom : (ℕ → List Link) → (a count : ℕ) → List Link
+linksFrom give a zero = []
+linksFrom give a (suc count) = give a ++ linksFrom give (suc a) count
+
+-- An arc's links: one, with the arc's number, head and cost (document 01, "What the planner holds and leaves out").
+abbrev pub arcLinks : Map → ℕ → List Link
+arcLinks M a = record { arc = a; head = headOf M a; cost = costOf M a } ∷ []
+
+-- The network of a map: the arcs leaving node v are numbers starts[v] up to but not including starts[v + 1], taken in number
+-- order (document 01, "What the planner holds and leaves out" and "The search").
+unfoldable pub network : Map → ℕ → Network
+network M source = record {
+  nodes = M .nodes;
+  source = source;
+  out = λ v. linksFrom (arcLinks M) (startOf M v) (startOf M (suc v) - startOf M v);
+}
+
+-- Some path leads from the source to the node, at this cost (document 000, section 1).
+pub data Path (N : Network) : ℕ → ℕ → Type 0 where
+  here : Path N (N .source) 0
+  on : {v c : ℕ} → Path N v c → (l : Link) → List·Memᴰ l (N .out v) → Path N (l .head) (c + l .cost)
+
+-- The path that the parent arcs spell out, from the last arc back to the source, leads to the node at this cost.
+pub data SpelledPath (N : Network) (parents : List ℕ) : ℕ → ℕ → Type 0 where
+  here : SpelledPath N parents (N .source) 0
+  on : {t c : ℕ} → SpelledPath N parents t c → (l : Link) → List·Memᴰ l (N .out t) → parentOf parents (l .head) ≡ l .arc
+      → (N .source ≡ l .head → ⊥) → SpelledPath N parents (l .head) (c + l .cost)
+
+-- A network that the theorems are about, with costs of at most C and at most m links: within document 01's limits, and an arc
+-- number names one arc.
+pub record Admissible (N : Network) (C m : ℕ) : Type 0 where
+  pub few-nodes : N .nodes ≤ 4096
+  pub low-ceiling : C ≤ 1048575
+  pub few-arcs : m ≤ 65536
+  pub source-node : N .source < N .nodes
+  pub heads : (v : ℕ) → v < N .nodes → (l : Link) → List·Memᴰ l (N .out v) → l .head < N .nodes
+  pub costs : (v : ℕ) → v < N .nodes → (l : Link) → List·Memᴰ l (N .out v) → l .cost ≤ C
+  pub links : sumBelow (N .nodes) (λ v. length (N .out v)) ≤ m
+  pub numbers : (v : ℕ) → v < N .nodes → (l : Link) → List·Memᴰ l (N .out v) → l .arc < m
+  pub one-arc : (v w : ℕ) (l k : Link) → List·Memᴰ l (N .out v) → List·Memᴰ k (N .out w) → l .arc ≡ k .arc → (v ≡ w) × (l ≡ k)
