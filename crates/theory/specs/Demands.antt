@@ -22,7 +22,7 @@ pub record CheapestRoutes (M : Map) (source : ℕ) (distances parents : List ℕ
   pub source-parent : parentOf parents source ≡ none
   pub unreached-parent : (v : ℕ) → v < M .nodes → distanceOf distances v ≡ none → parentOf parents v ≡ none
 
--- The same of a network, whose paths stand for the routes of the map that it is made of.
+-- Demand 2 of a network, whose paths stand for the routes of the map that it is made of (document 000, section 1).
 pub record CheapestPaths (N : Network) (distances parents : List ℕ) : Type 0 where
   pub distances-length : length distances ≡ N .nodes
   pub parents-length : length parents ≡ N .nodes
@@ -32,12 +32,13 @@ pub record CheapestPaths (N : Network) (distances parents : List ℕ) : Type 0 w
   pub source-parent : parentOf parents (N .source) ≡ none
   pub unreached-parent : (v : ℕ) → v < N .nodes → distanceOf distances v ≡ none → parentOf parents v ≡ none
 
--- No node twice.
+-- No node twice (document 01, "What the planner holds and leaves out": each once).
 abbrev pub Distinct : List ℕ → Type 0
 Distinct [] = Unit {0}
 Distinct (v ∷ vs) = (List·Memᴰ v vs → ⊥) × Distinct vs
 
--- The distances along a list of nodes never fall, from `low` to `high`, which is the last one's.
+-- The distances along a list of nodes never fall, from `low` to `high`, which is the last one's (document 01, "What the planner
+-- holds and leaves out": by nondecreasing distance).
 abbrev pub Rising : (distances : List ℕ) → (low : ℕ) → List ℕ → (high : ℕ) → Type 0
 Rising distances low [] high = low ≡ high
 Rising distances low (v ∷ vs) high = (low ≤ distanceOf distances v) × Rising distances (distanceOf distances v) vs high

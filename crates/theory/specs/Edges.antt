@@ -8,23 +8,24 @@ use Rattle.theory.specs.Shape.{oneLevelBuckets, twoLevelBuckets}
 use Rattle.theory.specs.Heap.{Heap, placements}
 use Rattle.theory.specs.Runs.{oneLevelRun, twoLevelRun}
 
--- What is asked: B of a heap, or a run of it.
+-- What is asked: B of a heap, or a run of it (document 01, "Edges, marked * where proved").
 pub data Question : Type 0 where
   one-level-buckets : (C : ℕ) → Question
   two-level-buckets : (C K : ℕ) → Question
   one-level-run : Map → (C source : ℕ) → Question
   two-level-run : Map → (C source K : ℕ) → Question
 
--- What is answered: B, or what is given back of a run.
+-- What is answered: B, or what is given back of a run (document 01, "What the planner holds and leaves out").
 pub data Answer : Type 0 where
   buckets : (B : ℕ) → Answer
   run : (r decreases B placements looks : ℕ) → (distances parents : List ℕ) → Answer
 
--- What a run gives back of its steps, for a heap of B buckets.
+-- What a run gives back of its steps, for a heap of B buckets (document 01, "What the planner holds and leaves out").
 abbrev pub given : (B : ℕ) → Heap → Answer
 given B h =
     run (length (h .search .roster)) (h .search .decreases) B (placements h) (h .looks) (h .search .distances) (h .search .parents)
 
+-- What the definitions answer.
 unfoldable pub answerTo : Question → Answer
 answerTo (one-level-buckets C) = buckets (oneLevelBuckets C)
 answerTo (two-level-buckets C K) = buckets (twoLevelBuckets C K)
@@ -40,28 +41,33 @@ listing = record {
   costs = 9 ∷ 4 ∷ 6 ∷ 4 ∷ 2 ∷ 0 ∷ 1 ∷ [];
 }
 
--- One node and no arc; arcs 0→1 and 1→0 of cost 0 (document 01, "Edges, marked * where proved").
+-- One node and no arc (document 01, "Edges, marked * where proved").
 abbrev pub oneNode : Map
 oneNode = record { nodes = 1; starts = 0 ∷ 0 ∷ []; heads = []; costs = [] }
 
+-- Arcs 0→1 and 1→0, both of cost 0 (document 01, "Edges, marked * where proved").
 abbrev pub zeroPair : Map
 zeroPair = record { nodes = 2; starts = 0 ∷ 1 ∷ 2 ∷ []; heads = 1 ∷ 0 ∷ []; costs = 0 ∷ 0 ∷ [] }
 
--- Arcs 0→1 and 1→2 of cost 1; arcs 0→1 and 1→2 of cost 4; arc 0→1 of cost 1.
+-- Arcs 0→1 and 1→2 of cost 1, into the last bucket of two levels where C is 1 and K is 2; ours.
 abbrev pub lowChain : Map
 lowChain = record { nodes = 3; starts = 0 ∷ 1 ∷ 2 ∷ 2 ∷ []; heads = 1 ∷ 2 ∷ []; costs = 1 ∷ 1 ∷ [] }
 
+-- Arcs 0→1 and 1→2 of cost 4, into the last bucket of one level where C is 4; ours.
 abbrev pub highChain : Map
 highChain = record { nodes = 3; starts = 0 ∷ 1 ∷ 2 ∷ 2 ∷ []; heads = 1 ∷ 2 ∷ []; costs = 4 ∷ 4 ∷ [] }
 
+-- Arc 0→1 of cost 1: with C 1 and K 64 the minimum with nC + 1 acts at n 2; ours.
 abbrev pub oneArc : Map
 oneArc = record { nodes = 2; starts = 0 ∷ 1 ∷ 1 ∷ []; heads = 1 ∷ []; costs = 1 ∷ [] }
 
+-- A row of the table: a question and the answer that document 01 gives.
 pub record Row : Type 0 where
   pub question : Question
   pub answer : Answer
 
 infix 90 _gives_
+-- A row, written as it reads.
 abbrev pub _gives_ : Question → Answer → Row
 _gives_ q a = record { question = q; answer = a }
 

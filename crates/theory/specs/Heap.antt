@@ -21,14 +21,15 @@ pub record Heap : Type 0 where
   pub shifts : ℕ
   pub looks : ℕ
 
--- u(i).
+-- The bound u(i) (document 01, "One-level heap").
 abbrev pub bound : List ℕ → ℕ → ℕ
 bound u i = getD u i 0
 
--- The bucket node v was last put in, and v's key, which is its distance.
+-- The bucket that node v was last put in (document 01, "The tallies").
 abbrev pub bucketOf : Heap → ℕ → ℕ
 bucketOf h v = getD (h .buckets) v 0
 
+-- The key of node v, which is its distance (document 000, section 2).
 abbrev pub keyOf : Heap → ℕ → ℕ
 keyOf h v = distance (h .search) v
 
@@ -49,7 +50,7 @@ searchStart sh unlabelled b = sh .buckets
 searchStart sh labelled b = b
 searchStart sh scanned b = b
 
--- The bucket in which node v is put with key x.
+-- The bucket in which node v is put with key x (document 01, "One-level heap").
 abbrev pub bucketFor : Shape → (v x : ℕ) → Heap → ℕ
 bucketFor sh v x h = bucketFrom (h .bounds) x (searchStart sh (mark (h .search) v) (bucketOf h v))
 
@@ -63,10 +64,11 @@ heapLabel sh v x a h = record {
   looks = h .looks;
 }
 
--- One link of a node at distance d is taken, then all of them in order (document 01, "The search").
+-- One link of a node at distance d is taken (document 01, "The search").
 unfoldable pub heapRelax : Shape → ℕ → Link → Heap → Heap
 heapRelax sh d l h = cond (improves d l (h .search)) (heapLabel sh (l .head) (d + l .cost) (l .arc) h) h
 
+-- The links of a node at distance d are taken in order (document 01, "The search").
 unfoldable pub heapRelaxAll : Shape → ℕ → List Link → Heap → Heap
 heapRelaxAll sh d [] h = h
 heapRelaxAll sh d (l ∷ ls) h = heapRelaxAll sh d ls (heapRelax sh d l h)
@@ -77,15 +79,17 @@ pub data Pick : Type 0 where
   nothing : Pick
   picked : (j k d v : ℕ) → Pick
 
--- Whether a is below b, or equal to it where `then` holds.
+-- Whether a is below b, or equal to it where `then` holds: bucket first, then segment, then key (document 01, "Two-level heap").
 abbrev pub lower : (a b : ℕ) → Bool → Bool
 lower a b then = cond (ltb a b) true (eqb a b && then)
 
--- Node v in segment k of bucket j with key d, or the pick among nodes of smaller number: v only where it stands strictly lower.
+-- Node v in segment k of bucket j with key d, or the pick among nodes of smaller number: v only where it stands strictly lower
+-- (document 01, "Two-level heap" and "The search").
 abbrev pub lowest : (j k d v : ℕ) → Pick → Pick
 lowest j k d v nothing = picked j k d v
 lowest j k d v (picked i l e w) = cond (lower j i (lower k l (ltb d e))) (picked j k d v) (picked i l e w)
 
+-- A node is considered only if it is labelled (document 01, "The search").
 abbrev pub considerPick : Mark → (j k d v : ℕ) → Pick → Pick
 considerPick unlabelled j k d v p = p
 considerPick labelled j k d v p = lowest j k d v p
@@ -95,22 +99,24 @@ considerPick scanned j k d v p = p
 abbrev pub segmentOf : Shape → Heap → ℕ → ℕ
 segmentOf sh h v = sh .segment (bucketOf h v) (bound (h .bounds) (bucketOf h v)) (keyOf h v)
 
--- The pick among the nodes below n.
+-- The pick among the nodes below n (document 01, "One-level heap" and "Two-level heap").
 unfoldable pub pick : Shape → Heap → ℕ → Pick
 pick sh h zero = nothing
 pick sh h (suc v) = considerPick (mark (h .search) v) (bucketOf h v) (segmentOf sh h v) (keyOf h v) v (pick sh h v)
 
--- The bounds u(i), u(i + 1), .., `left` of them, set anew: each is min(the one before + size, t).
+-- The bounds u(i), u(i + 1), .., `left` of them, set anew: each is min(the one before + size, t) (document 01, "Two-level heap").
 unfoldable pub rebound : Shape → (t before i left : ℕ) → List ℕ → List ℕ
 rebound sh t before i zero u = u
 rebound sh t before i (suc left) u = let y : ℕ = min (before + sh .size i) t in rebound sh t y (suc i) left (set u i y)
 
 -- The bounds after a removal from segment k of bucket j with smallest key d: u(1) to u(j - 1) anew, with d - 1 for the bound
--- before u(1) and the segment's upper end for t; none where j is 1. In document 01's words: Formulas of proofs/.
+-- before u(1) and the segment's upper end for t; none where j is 1 (document 01, "One-level heap" and "Two-level heap", whose
+-- own words are corollaries in Shapes.Formulas).
 unfoldable pub boundsAfter : Shape → (j k d : ℕ) → List ℕ → List ℕ
 boundsAfter sh j k d u = rebound sh (sh .end j (bound u j) k) (d - 1) 1 (j - 1) u
 
--- What a removal does to one node: the bucket in which it then stands, and its shifts, 0 or 1.
+-- What a removal does to one node: the bucket in which it then stands, and its shifts, 0 or 1. A shift is document 01's own
+-- term (document 01, "One-level heap" and "The tallies").
 pub record Move : Type 0 where
   pub bucket : ℕ
   pub shifts : ℕ
@@ -120,24 +126,26 @@ pub record Move : Type 0 where
 abbrev pub shifts? : (j k w v b l : ℕ) → Bool
 shifts? j k w v b l = ltb 1 j && (eqb b j && (eqb l k && not (eqb v w)))
 
+-- A labelled node of bucket b, which is shifted to bucket b′ or stays (document 01, "One-level heap").
 abbrev pub moveLabelled : Bool → (b b′ : ℕ) → Move
 moveLabelled true b b′ = record { bucket = b′; shifts = 1 }
 moveLabelled false b b′ = record { bucket = b; shifts = 0 }
 
--- Node v when w is removed from segment k of bucket j, and the new bounds are u′: a shift's search starts at the present
--- bucket (document 01, "One-level heap").
+-- Only a labelled node is shifted (document 01, "One-level heap").
 abbrev pub moveMarked : Mark → Bool → (b b′ : ℕ) → Move
 moveMarked unlabelled t b b′ = record { bucket = b; shifts = 0 }
 moveMarked labelled t b b′ = moveLabelled t b b′
 moveMarked scanned t b b′ = record { bucket = b; shifts = 0 }
 
+-- Node v when w is removed from segment k of bucket j, and the new bounds are u′: the search for a shifted node's place starts
+-- at its present bucket (document 01, "One-level heap").
 unfoldable pub move : Shape → (u′ : List ℕ) → (j k w : ℕ) → Heap → (v : ℕ) → Move
 move sh u′ j k w h v =
     moveMarked (mark (h .search) v) (shifts? j k w v (bucketOf h v) (segmentOf sh h v)) (bucketOf h v)
     (bucketFrom u′ (keyOf h v) (bucketOf h v))
 
 -- The removal of node w, with the smallest key d, from segment k of bucket j, its new bounds and shifts included; looks are
--- made at the buckets 1 to j and at segments as the shape says (document 01, "The tallies").
+-- made at the buckets 1 to j and at segments as the shape says. A look is document 01's own term (document 01, "The tallies").
 unfoldable pub heapRemove : Shape → (j k d w : ℕ) → Heap → Heap
 heapRemove sh j k d w h =
     let u′ : List ℕ = boundsAfter sh j k d (h .bounds) in
@@ -165,6 +173,7 @@ unfoldable pub boundsFrom : Shape → (i sum left : ℕ) → List ℕ
 boundsFrom sh i sum zero = sh .top ∷ []
 boundsFrom sh i sum (suc left) = min (sum + sh .size i - 1) (sh .top) ∷ boundsFrom sh (suc i) (sum + sh .size i) left
 
+-- The first bounds u(1) to u(B) (document 01, "One-level heap" and "Two-level heap").
 unfoldable pub firstBounds : Shape → List ℕ
 firstBounds sh = 0 ∷ boundsFrom sh 1 0 (sh .buckets - 1)
 
@@ -176,6 +185,6 @@ heapBlank N sh = record { search = blank N; buckets = replicate (N .nodes) 0; bo
 unfoldable pub heapStart : Network → Shape → Heap
 heapStart N sh = heapLabel sh (N .source) 0 none (heapBlank N sh)
 
--- All the steps. As many removals as there are nodes are enough: `heap-ends` of Heap.Run.
+-- All the steps of a run (document 01, "The tallies"). As many removals as there are nodes are enough: `heap-ends` of Heap.Run.
 unfoldable pub heap : Network → Shape → Heap
 heap N sh = heapFrom N sh (N .nodes) (heapStart N sh)

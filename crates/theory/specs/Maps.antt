@@ -11,7 +11,7 @@ none = 4294967295
 
 -- A map, lent as three lists of words (document 01, "What the planner holds and leaves out").
 pub record Map : Type 0 where
-  -- n
+  -- n; the nodes are numbered 0 to n - 1
   pub nodes : ℕ
   pub starts : List ℕ
   pub heads : List ℕ
@@ -21,13 +21,15 @@ pub record Map : Type 0 where
 abbrev pub arcs : Map → ℕ
 arcs M = length (M .heads)
 
--- starts[v], the head and the cost of arc a (document 01, "What the planner holds and leaves out").
+-- The word starts[v] (document 01, "What the planner holds and leaves out").
 abbrev pub startOf : Map → ℕ → ℕ
 startOf M v = getD (M .starts) v 0
 
+-- The head of arc a (document 01, "What the planner holds and leaves out").
 abbrev pub headOf : Map → ℕ → ℕ
 headOf M a = getD (M .heads) a 0
 
+-- The cost of arc a (document 01, "What the planner holds and leaves out").
 abbrev pub costOf : Map → ℕ → ℕ
 costOf M a = getD (M .costs) a 0
 
@@ -36,8 +38,8 @@ costOf M a = getD (M .costs) a 0
 abbrev pub Leaves : Map → (a v : ℕ) → Type 0
 Leaves M a v = (startOf M v ≤ a) × (a < startOf M (suc v))
 
--- The arcs of a list, in the order of travel, are a route from the first node to the second: each leaves the node at which the one
--- before it arrives (document 01, "Routes").
+-- A list of arcs, in the order of travel, is a route from the first node to the second: each arc leaves the node at which the
+-- one before it arrives (document 01, "Routes").
 pub data Route (M : Map) : ℕ → List ℕ → ℕ → Type 0 where
   here : {v : ℕ} → Route M v [] v
   along : {v w : ℕ} {route : List ℕ} (a : ℕ) → Leaves M a v → Route M (headOf M a) route w → Route M v (a ∷ route) w
@@ -56,7 +58,7 @@ Reached M source v = (route : List ℕ) × Route M source route v
 abbrev pub parentOf : List ℕ → ℕ → ℕ
 parentOf parents v = getD parents v none
 
--- The distance of node v; a missing word is none.
+-- The distance of node v; a missing word is none (document 01, "What the planner holds and leaves out").
 abbrev pub distanceOf : List ℕ → ℕ → ℕ
 distanceOf distances v = getD distances v none
 

@@ -7,19 +7,21 @@ use lib.ListN.{length}
 use Rattle.theory.specs.Sums.{sumBelow}
 use Rattle.theory.specs.Maps.{none, Map, arcs, startOf, headOf, costOf, parentOf}
 
--- One arc, as its tail sees it.
+-- One arc, as its tail sees it: number, head and cost (document 000, section 1).
 pub record Link : Type 0 where
   pub arc : ℕ
   pub head : ℕ
   pub cost : ℕ
 
--- Nodes below `nodes`, a source, and for each node its links in the order in which a scan takes them.
+-- Nodes below `nodes`, a source, and for each node its links in the order in which a scan takes them (document 000, section 1;
+-- document 01, "The search").
 pub record Network : Type 0 where
   pub nodes : ℕ
   pub source : ℕ
   pub out : ℕ → List Link
 
--- The links of the arcs a, a + 1, .., `count` of them, each arc's as `give` has them.
+-- The links of the arcs a, a + 1, .., `count` of them, each arc's as `give` has them (document 01, "The search": arcs are taken in
+-- number order).
 unfoldable pub linksFrom : (ℕ → List Link) → (a count : ℕ) → List Link
 linksFrom give a zero = []
 linksFrom give a (suc count) = give a ++ linksFrom give (suc a) count
@@ -42,14 +44,15 @@ pub data Path (N : Network) : ℕ → ℕ → Type 0 where
   here : Path N (N .source) 0
   on : {v c : ℕ} → Path N v c → (l : Link) → List·Memᴰ l (N .out v) → Path N (l .head) (c + l .cost)
 
--- The path that the parent arcs spell out, from the last arc back to the source, leads to the node at this cost.
+-- The path that the parent arcs spell out, from the last arc back to the source, leads to the node at this cost (document 01,
+-- "Routes").
 pub data SpelledPath (N : Network) (parents : List ℕ) : ℕ → ℕ → Type 0 where
   here : SpelledPath N parents (N .source) 0
   on : {t c : ℕ} → SpelledPath N parents t c → (l : Link) → List·Memᴰ l (N .out t) → parentOf parents (l .head) ≡ l .arc
       → (N .source ≡ l .head → ⊥) → SpelledPath N parents (l .head) (c + l .cost)
 
--- A network that the theorems are about, with costs of at most C and at most m links: within document 01's limits, and an arc
--- number names one arc.
+-- A network that the theorems are about, with costs of at most C and at most m links: within the limits of document 01, "What
+-- the planner holds and leaves out", and an arc number names one arc.
 pub record Admissible (N : Network) (C m : ℕ) : Type 0 where
   pub few-nodes : N .nodes ≤ 4096
   pub low-ceiling : C ≤ 1048575

@@ -8,12 +8,12 @@ use lib.Dec.{ltb}
 use Rattle.theory.specs.Maps.{none, distanceOf, parentOf}
 use Rattle.theory.specs.Network.{Link, Network}
 
--- What a node is (document 01, "The tallies").
+-- Whether a node is unlabelled, labelled or scanned (document 01, "The tallies").
 pub data Mark : Type 0 where
   unlabelled labelled scanned : Mark
 
 -- What the steps keep of the search (document 01, "The tallies"): for each node its mark, distance and parent; insertions and
--- decreases. The roster, the nodes in the order scanned, is ours.
+-- decreases. The roster, here the nodes in the order scanned, is ours.
 pub record Search : Type 0 where
   pub marks : List Mark
   pub distances : List ℕ
@@ -22,13 +22,15 @@ pub record Search : Type 0 where
   pub insertions : ℕ
   pub decreases : ℕ
 
--- The mark, the distance and the parent of node v.
+-- The mark of node v (document 01, "The tallies").
 abbrev pub mark : Search → ℕ → Mark
 mark s v = getD (s .marks) v unlabelled
 
+-- The distance of node v (document 01, "The tallies").
 abbrev pub distance : Search → ℕ → ℕ
 distance s v = distanceOf (s .distances) v
 
+-- The parent of node v (document 01, "The tallies").
 abbrev pub parent : Search → ℕ → ℕ
 parent s v = parentOf (s .parents) v
 
@@ -39,22 +41,25 @@ below unlabelled sum d = true
 below labelled sum d = ltb sum d
 below scanned sum d = ltb sum d
 
--- Whether link l, taken from a node at distance d, improves its head.
+-- Whether link l, taken from a node at distance d, improves its head: distance plus cost is strictly below the head's distance
+-- (document 01, "The search").
 abbrev pub improves : ℕ → Link → Search → Bool
 improves d l s = below (mark s (l .head)) (d + l .cost) (distance s (l .head))
 
--- What a mark becomes when its node gets a new distance, and whether that is an insertion or a decrease (document 01, "The
--- tallies"). A scanned node never improves: `improves-open` of Search.Relaxing.
+-- The mark of a node that gets a new distance (document 01, "The tallies"). A scanned node never does: `improves-open` of
+-- Search.Relaxing.
 abbrev pub asLabelled : Mark → Mark
 asLabelled unlabelled = labelled
 asLabelled labelled = labelled
 asLabelled scanned = scanned
 
+-- 1 for an insertion: an unlabelled node gets a distance (document 01, "The tallies").
 abbrev pub inserted : Mark → ℕ
 inserted unlabelled = 1
 inserted labelled = 0
 inserted scanned = 0
 
+-- 1 for a decrease, document 01's own term: a labelled node's key falls (document 01, "The tallies").
 abbrev pub decreased : Mark → ℕ
 decreased unlabelled = 0
 decreased labelled = 1
@@ -71,10 +76,11 @@ label v x a s = record {
   decreases = s .decreases + decreased (mark s v);
 }
 
--- One link of a node at distance d is taken, then all of them in order (document 01, "The search").
+-- One link of a node at distance d is taken (document 01, "The search").
 unfoldable pub relax : ℕ → Link → Search → Search
 relax d l s = cond (improves d l s) (label (l .head) (d + l .cost) (l .arc) s) s
 
+-- The links of a node at distance d are taken in order (document 01, "The search").
 unfoldable pub relaxAll : ℕ → List Link → Search → Search
 relaxAll d [] s = s
 relaxAll d (l ∷ ls) s = relaxAll d ls (relax d l s)
@@ -90,20 +96,22 @@ remove v s = record {
   decreases = s .decreases;
 }
 
--- Node v is scanned (document 01, "The search").
+-- Node v is scanned: it is removed, then its arcs are taken in number order (document 01, "The search" and "The tallies").
 unfoldable pub scan : Network → ℕ → Search → Search
 scan N v s = relaxAll (distance s v) (N .out v) (remove v s)
 
--- A choice among labelled nodes: none, or a node and its distance.
+-- A choice among labelled nodes: none, or a node and its distance (document 01, "The search").
 pub data Choice : Type 0 where
   nothing : Choice
   chosen : (v d : ℕ) → Choice
 
--- Node v at distance d, or the choice among nodes of smaller number: v only where it is strictly nearer.
+-- Node v at distance d, or the choice among nodes of smaller number: v only where it is strictly nearer (document 01, "The
+-- search").
 abbrev pub nearer : (v d : ℕ) → Choice → Choice
 nearer v d nothing = chosen v d
 nearer v d (chosen w e) = cond (ltb d e) (chosen v d) (chosen w e)
 
+-- A node is considered only if it is labelled (document 01, "The search").
 abbrev pub consider : Mark → (v d : ℕ) → Choice → Choice
 consider unlabelled v d c = c
 consider labelled v d c = nearer v d c
@@ -134,6 +142,6 @@ blank N = record {
 unfoldable pub start : Network → Search
 start N = label (N .source) 0 none (blank N)
 
--- The whole search. As many removals as there are nodes are enough: `search-ends` of Search.Ends.
+-- The whole search (document 01, "The search"). As many removals as there are nodes are enough: `search-ends` of Search.Ends.
 unfoldable pub search : Network → Search
 search N = searchFrom N (N .nodes) (start N)

@@ -4,6 +4,7 @@ use Prim.Native.Nat.{ℕ, zero, suc, _+_, _-_, _*_, _^_, _/_, max}
 use mathlib.Core.Bool.{Bool, true, false, cond}
 use lib.Dec.{leb, ltb}
 
+-- What sets the two heaps apart; everything else is common to both (document 01, "One-level heap" and "Two-level heap").
 pub record Shape : Type 0 where
   -- B, the number of buckets, and the last bound, u(B)
   pub buckets : ℕ
@@ -17,13 +18,13 @@ pub record Shape : Type 0 where
   -- the looks at segments of a removal that uses segment k
   pub looks : ℕ → ℕ
 
--- The least exponent from e on with x ≤ b ^ exponent, e + fuel at the most.
+-- The least exponent from e on with x ≤ b ^ exponent, e + fuel at the most (document 01: ceil(log) in both formulas for B).
 unfoldable pub logFrom : (fuel b x e : ℕ) → ℕ
 logFrom zero b x e = e
 logFrom (suc fuel) b x e = cond (leb x (b ^ e)) e (logFrom fuel b x (suc e))
 
--- The logarithm of x to the base b, rounded up: x is C + 1, at most 2 ^ 20, and b at least 2, so that 20 is enough
--- (`ceilLog-least` of Shapes.Logarithm).
+-- ceil(logb(x)), for document 01's two formulas for B: x is C + 1, at most 2 ^ 20, and b at least 2, so that 20 is enough
+-- (`ceilLog-enough` and `ceilLog-least` of Shapes.Logarithm).
 unfoldable pub ceilLog : (b x : ℕ) → ℕ
 ceilLog b x = logFrom 20 b x 0
 

@@ -7,7 +7,7 @@ use mathlib.Core.Bool.{Bool, true, false, cond}
 use mathlib.Core.Logic.{inl, inr}
 use lib.Dec.{leb}
 use borrow.Author.Tests.{leb-true, leb-false}
-use Rattle.theory.specs.Shape.{logFrom, ceilLog}
+use Rattle.theory.specs.Shape.{logFrom, ceilLog, oneLevelBuckets, twoLevelBuckets}
 use Rattle.theory.proofs.Cases.{split}
 
 logFrom-enough : (fuel b x e : ℕ) → x ≤ b ^ (e + fuel) → x ≤ b ^ logFrom fuel b x e
@@ -42,3 +42,25 @@ ceilLog-enough b C two few =
 pub ceilLog-least : (b x i : ℕ) → i < ceilLog b x → b ^ i < x
 unfolding ceilLog
 ceilLog-least b x i h = logFrom-least 20 b x 0 i (omega arith) h
+
+-- It is at most 20, so that there are at most 22 buckets of one level and 21 of two.
+logFrom-most : (fuel b x e : ℕ) → logFrom fuel b x e ≤ e + fuel
+unfolding logFrom
+logFrom-most zero b x e = omega arith
+logFrom-most (suc fuel) b x e = go (leb x (b ^ e)) (logFrom-most fuel b x (suc e))
+  where
+    go : (t : Bool) → logFrom fuel b x (suc e) ≤ suc e + fuel → cond t e (logFrom fuel b x (suc e)) ≤ e + suc fuel
+    go true ih = omega arith
+    go false ih = omega arith
+
+ceilLog-most : (b x : ℕ) → ceilLog b x ≤ 20
+unfolding ceilLog
+ceilLog-most b x = omega (arith, logFrom-most 20 b x 0)
+
+pub one-level-most : (C : ℕ) → oneLevelBuckets C ≤ 22
+unfolding oneLevelBuckets
+one-level-most C = omega (arith, ceilLog-most 2 (C + 1))
+
+pub two-level-most : (C K : ℕ) → twoLevelBuckets C K ≤ 21
+unfolding twoLevelBuckets
+two-level-most C K = omega (arith, ceilLog-most K (C + 1))

@@ -1,0 +1,3 @@
+pub mod Rule
+mod Table
+pub mod Used
