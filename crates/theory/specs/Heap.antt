@@ -104,16 +104,18 @@ unfoldable pub pick : Shape → Heap → ℕ → Pick
 pick sh h zero = nothing
 pick sh h (suc v) = considerPick (mark (h .search) v) (bucketOf h v) (segmentOf sh h v) (keyOf h v) v (pick sh h v)
 
--- The bounds u(i), u(i + 1), .., `left` of them, set anew: each is min(the one before + size, t) (document 01, "Two-level heap").
-unfoldable pub rebound : Shape → (t before i left : ℕ) → List ℕ → List ℕ
-rebound sh t before i zero u = u
-rebound sh t before i (suc left) u = let y : ℕ = min (before + sh .size i) t in rebound sh t y (suc i) left (set u i y)
+-- The bounds u(i), u(i + 1), .., `left` of them, set anew for buckets of these sizes: each is min(the one before + size, t)
+-- (document 01, "Two-level heap").
+unfoldable pub rebound : (size : ℕ → ℕ) → (t before i left : ℕ) → List ℕ → List ℕ
+rebound size t before i zero u = u
+rebound size t before i (suc left) u =
+    let y : ℕ = min (before + size i) t in rebound size t y (suc i) left (set u i y)
 
 -- The bounds after a removal from segment k of bucket j with smallest key d: u(1) to u(j - 1) anew, with d - 1 for the bound
 -- before u(1) and the segment's upper end for t; none where j is 1 (document 01, "One-level heap" and "Two-level heap", whose
 -- own words are corollaries in Shapes.Formulas).
 unfoldable pub boundsAfter : Shape → (j k d : ℕ) → List ℕ → List ℕ
-boundsAfter sh j k d u = rebound sh (sh .end j (bound u j) k) (d - 1) 1 (j - 1) u
+boundsAfter sh j k d u = rebound (sh .size) (sh .end j (bound u j) k) (d - 1) 1 (j - 1) u
 
 -- What a removal does to one node: the bucket in which it then stands, and its shifts, 0 or 1. A shift is document 01's own
 -- term (document 01, "One-level heap" and "The tallies").
@@ -167,15 +169,16 @@ unfoldable pub heapFrom : Network → Shape → ℕ → Heap → Heap
 heapFrom N sh zero h = h
 heapFrom N sh (suc fuel) h = elim (pick sh h (N .nodes)) [ nothing ↦ h | picked j k d v ↦ heapFrom N sh fuel (heapScan N sh j k d v h) ]
 
--- The first bounds u(i), u(i + 1), .., `left` of them below the last: min(size(1) + .. + size(i) - 1, nC + 1), where `sum` is
--- size(1) + .. + size(i - 1) (document 01, "One-level heap" and "Two-level heap").
-unfoldable pub boundsFrom : Shape → (i sum left : ℕ) → List ℕ
-boundsFrom sh i sum zero = sh .top ∷ []
-boundsFrom sh i sum (suc left) = min (sum + sh .size i - 1) (sh .top) ∷ boundsFrom sh (suc i) (sum + sh .size i) left
+-- The first bounds u(i), u(i + 1), .., `left` of them below the last, which is `top`: min(size(1) + .. + size(i) - 1, nC + 1),
+-- where `sum` is size(1) + .. + size(i - 1) (document 01, "One-level heap" and "Two-level heap").
+unfoldable pub boundsFrom : (size : ℕ → ℕ) → (top i sum left : ℕ) → List ℕ
+boundsFrom size top i sum zero = top ∷ []
+boundsFrom size top i sum (suc left) =
+    min (sum + size i - 1) top ∷ boundsFrom size top (suc i) (sum + size i) left
 
 -- The first bounds u(1) to u(B) (document 01, "One-level heap" and "Two-level heap").
 unfoldable pub firstBounds : Shape → List ℕ
-firstBounds sh = 0 ∷ boundsFrom sh 1 0 (sh .buckets - 1)
+firstBounds sh = 0 ∷ boundsFrom (sh .size) (sh .top) 1 0 (sh .buckets - 1)
 
 -- At first every node is unlabelled, and each count is 0 (document 01, "The tallies").
 unfoldable pub heapBlank : Network → Shape → Heap

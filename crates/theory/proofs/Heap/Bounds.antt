@@ -22,17 +22,17 @@ pub record Bounds (sh : Shape) (last : ℕ) (u : List ℕ) : Type 0 where
 
 -- The first bounds: u(p) = min(size(1) + .. + size(p) - 1, u(B)).
 module _ (sh : Shape) where
-  boundsFrom-length : (i sum left : ℕ) → length (boundsFrom sh i sum left) ≡ suc left
+  boundsFrom-length : (i sum left : ℕ) → length (boundsFrom (sh .size) (sh .top) i sum left) ≡ suc left
   unfolding boundsFrom
   boundsFrom-length i sum zero = refl
   boundsFrom-length i sum (suc left) = let ih = boundsFrom-length (suc i) (sum + sh .size i) left in omega arith
 
-  boundsFrom-last : (i sum left : ℕ) → bound (boundsFrom sh i sum left) left ≡ sh .top
+  boundsFrom-last : (i sum left : ℕ) → bound (boundsFrom (sh .size) (sh .top) i sum left) left ≡ sh .top
   unfolding boundsFrom
   boundsFrom-last i sum zero = refl
   boundsFrom-last i sum (suc left) = boundsFrom-last (suc i) (sum + sh .size i) left
 
-  boundsFrom-at : (i left q p : ℕ) → q < left → p ≡ suc (i + q) → bound (boundsFrom sh (suc i) (total sh i) left) q ≡ min (total sh p - 1) (sh .top)
+  boundsFrom-at : (i left q p : ℕ) → q < left → p ≡ suc (i + q) → bound (boundsFrom (sh .size) (sh .top) (suc i) (total sh i) left) q ≡ min (total sh p - 1) (sh .top)
   unfolding boundsFrom total
   boundsFrom-at i zero q p h e = absurd (omega arith)
   boundsFrom-at i (suc left) zero p h e = let q : p ≡ suc i = omega arith in rw q
@@ -47,7 +47,7 @@ module _ (sh : Shape) where
   unfolding firstBounds
   first-top two = go (sh .buckets) (omega arith)
     where
-      go : (b : ℕ) → b ≡ suc (sh .buckets - 1) → bound (0 ∷ boundsFrom sh 1 0 (sh .buckets - 1)) b ≡ sh .top
+      go : (b : ℕ) → b ≡ suc (sh .buckets - 1) → bound (0 ∷ boundsFrom (sh .size) (sh .top) 1 0 (sh .buckets - 1)) b ≡ sh .top
       go b e = rw e (boundsFrom-last 1 0 (sh .buckets - 1))
 
 pub bounds-first : {sh : Shape} {C S : ℕ} → Lawful sh C S → Bounds sh 0 (firstBounds sh)
@@ -69,25 +69,25 @@ bounds-first {sh} law = record {
 
 -- Setting bounds anew: those from i on, `left` of them, and no others.
 module _ (sh : Shape) (t : ℕ) where
-  rebound-length : (last i left : ℕ) (u : List ℕ) → length (rebound sh t last i left u) ≡ length u
+  rebound-length : (last i left : ℕ) (u : List ℕ) → length (rebound (sh .size) t last i left u) ≡ length u
   unfolding rebound
   rebound-length last i zero u = refl
   rebound-length last i (suc left) u = rebound-length (min (last + sh .size i) t) (suc i) left _ ∙ length-set u i _
 
-  rebound-before : (last i left : ℕ) (u : List ℕ) (p : ℕ) → p < i → bound (rebound sh t last i left u) p ≡ bound u p
+  rebound-before : (last i left : ℕ) (u : List ℕ) (p : ℕ) → p < i → bound (rebound (sh .size) t last i left u) p ≡ bound u p
   unfolding rebound
   rebound-before last i zero u p h = refl
   rebound-before last i (suc left) u p h =
       rebound-before (min (last + sh .size i) t) (suc i) left _ p (omega arith) ∙ getD-set-other u i p _ 0 (omega arith)
 
-  rebound-after : (last i left : ℕ) (u : List ℕ) (p : ℕ) → i + left ≤ p → bound (rebound sh t last i left u) p ≡ bound u p
+  rebound-after : (last i left : ℕ) (u : List ℕ) (p : ℕ) → i + left ≤ p → bound (rebound (sh .size) t last i left u) p ≡ bound u p
   unfolding rebound
   rebound-after last i zero u p h = refl
   rebound-after last i (suc left) u p h =
       rebound-after (min (last + sh .size i) t) (suc i) left _ p (omega arith) ∙ getD-set-other u i p _ 0 (omega arith)
 
   rebound-at : (a last i left : ℕ) (u : List ℕ) (p : ℕ) → last ≡ min (a + total sh i) t → i + left < length u → i < p → p ≤ i + left
-      → bound (rebound sh t last (suc i) left u) p ≡ min (a + total sh p) t
+      → bound (rebound (sh .size) t last (suc i) left u) p ≡ min (a + total sh p) t
   unfolding rebound total
   rebound-at a last i zero u p e long h k = absurd (omega arith)
   rebound-at a last i (suc left) u p e long h k =
