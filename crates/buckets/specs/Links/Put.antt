@@ -1,0 +1,192 @@
+-- `link`: v, which no slot holds, becomes the first of slot s. `AfterPut` says what the words then are, `put-chains` that such words are
+-- in order again, and `put-empty` and `put-more` that the stores of the code's two ways make such words. Assumes nothing.
+use mathlib.Core.Path.{_≡_, refl, sym, ap, _∙_}
+use mathlib.Core.Logic.{inl, inr, ⊎-elim, _≢_}
+use mathlib.Core.List.{List, [], _∷_}
+use Prim.Native.Nat.{ℕ, suc, _+_, _*_, _-_, _≤_, _<_}
+use native.Mathlib.Nat.{suc-inj}
+use native.Mathlib.Omega.{arith}
+use native.Mathlib.Decide.{ℕ-discrete}
+use lib.ListN.{length, getD, set, length-set}
+use Rattle.buckets.specs.Lists.{In, Once}
+use Rattle.buckets.specs.Lists.Without.{in-subst}
+use Rattle.buckets.specs.Words.{placeWord, Free, places, heads, Other, Fits}
+use Rattle.buckets.specs.Words.Laws.{place-named, place-word}
+use Rattle.buckets.specs.Links.{Spells, Slot, Chains, Relinked}
+use Rattle.buckets.specs.Links.Chain as chain
+use Rattle.buckets.specs.Links.Chain.{chain-below, first-in, frame, slot-other, chains-again, slots-again}
+use Rattle.buckets.specs.Links.Stores.{store, Each, read-other, read-here, link, link-off, link-here, link-ways, relinked-stores}
+
+-- v is the first of slot s, with x for its place word, and what the slot held follows it
+record AfterPut (n v s x : ℕ) (words words′ : List ℕ) : Type 0 where
+  head : getD words′ (heads n + s) 0 ≡ suc v
+  next : getD words′ v 0 ≡ getD words (heads n + s) 0
+  before : getD words′ (n + v) 0 ≡ heads n + s
+  place : getD words′ (2 * n + v) 0 ≡ x
+  after : (u : ℕ) → u < n → getD words (heads n + s) 0 ≡ suc u → getD words′ (n + u) 0 ≡ v
+  other-heads : (t : ℕ) → t ≢ s → getD words′ (heads n + t) 0 ≡ getD words (heads n + t) 0
+  nexts : (y : ℕ) → y < n → y ≢ v → getD words′ y 0 ≡ getD words y 0
+  befores : (y : ℕ) → y < n → y ≢ v → (getD words (heads n + s) 0 ≡ suc y → ⊥) → getD words′ (n + y) 0 ≡ getD words (n + y) 0
+  other-places : (y : ℕ) → y < n → y ≢ v → getD words′ (2 * n + y) 0 ≡ getD words (2 * n + y) 0
+
+module _ {n slots segments v s : ℕ} {words words′ : List ℕ} (few : slots < 512) (hv : v < n) (hs : s < slots)
+    (free : Free (getD words (2 * n + v) 0)) (C : Chains n slots segments words) (f : AfterPut n v s (placeWord segments s) words words′) where
+  -- v is in no slot
+  new : (t : ℕ) (ht : t < slots) (x : ℕ) → In x (C .slot t ht .nodes) → x ≢ v
+  new t ht x i e =
+      let g : getD words (2 * n + v) 0 ≡ placeWord segments t = ap (λ (k : ℕ). getD words (2 * n + k) 0) (sym e) ∙ C .slot t ht .held x i in
+      omega arith
+
+  -- the slot's old chain, from v's next word
+  tail : (l : List ℕ) → Spells n words (heads n + s) l → Once l → ((x : ℕ) → In x l → x ≢ v) → Spells n words′ v l
+  tail [] c o k = f .next ∙ c
+  tail (u ∷ r) c o k = (
+    f .next ∙ c .0,
+    c .1,
+    f .after u (c .1) (c .0),
+    frame n words words′ u r (f .nexts u (c .1) (k u (inl refl)))
+        (λ x h i. (
+          f .nexts x h (k x (inr i)),
+          f .befores x h (k x (inr i)) (λ e. o .0 (in-subst x u r (suc-inj (sym e ∙ c .0)) i)),
+        ))
+        (c .3),
+  )
+
+  own : Slot n segments words′ s
+  own =
+      let a : Slot n segments words s = C .slot s hs in
+      record {
+        nodes = v ∷ a .nodes;
+        chain = (f .head, hv, f .before, tail (a .nodes) (a .chain) (a .once) (new s hs));
+        once = (λ i. new s hs v i refl, a .once);
+        held = λ x. ⊎-elim (λ e. ap (λ (k : ℕ). getD words′ (2 * n + k) 0) e ∙ f .place)
+            (λ i. f .other-places x (chain-below n words (heads n + s) (a .nodes) (a .chain) x i) (new s hs x i) ∙ a .held x i);
+        all = λ x h e. go x h e (ℕ-discrete x v);
+      }
+    where
+      go : (x : ℕ) → x < n → getD words′ (2 * n + x) 0 ≡ placeWord segments s → Dec (x ≡ v) → In x (v ∷ C .slot s hs .nodes)
+      go x h e (yes d) = inl d
+      go x h e (no d) = inr (C .slot s hs .all x h (sym (f .other-places x h d) ∙ e))
+
+  other : (t : ℕ) → t < slots → t ≢ s → Slot n segments words′ t
+  other t ht d =
+      let a : Slot n segments words t = C .slot t ht in
+      slot-other n words words′ v (placeWord segments s) (f .place) (f .other-places) segments t a
+      (frame n words words′ (heads n + t) (a .nodes) (f .other-heads t d)
+      (λ x h i. (f .nexts x h (new t ht x i), f .befores x h (new t ht x i) (apart x i)))
+      (a .chain))
+      (λ i. new t ht v i refl)
+      (omega arith)
+    where
+      apart : (x : ℕ) → In x (C .slot t ht .nodes) → getD words (heads n + s) 0 ≡ suc x → ⊥
+      apart x i e =
+          let b : getD words (2 * n + x) 0 ≡ placeWord segments s =
+          C .slot s hs .held x (first-in n words (heads n + s) (C .slot s hs .nodes) (C .slot s hs .chain) x e) in
+          let g : getD words (2 * n + x) 0 ≡ placeWord segments t = C .slot t ht .held x i in
+          omega arith
+
+  put-chains : Chains n slots segments words′
+  put-chains =
+      chains-again n words words′ v (placeWord segments s) (f .place) (f .other-places) slots segments C
+      (λ h. place-named slots segments s few hs)
+      (slots-again s own other)
+
+-- ---- the code's stores
+
+module _ {n slots segments : ℕ} {words : List ℕ} (F : Fits n slots segments (length words)) (C : Chains n slots segments words)
+    (v s : ℕ) (hv : v < n) (hs : s < slots) where
+  -- the slot's head word, 0 or its first node and 1
+  abbrev first : ℕ
+  first = getD words (heads n + s) 0
+
+  pub head-le : first ≤ n
+  head-le = chain.head-le C s hs
+
+  -- what is stored: v's place word, its before word, its next word, the slot's head word, and the old first node's before word
+  module _ (place before next head after : ℕ)
+      (stored : (place ≡ placeWord segments s) × (before ≡ heads n + s) × (next ≡ first) × (head ≡ v + 1) × (after ≡ v))
+      (free : Free (getD (places n words) v 0)) where
+    -- the stores that are left after three
+    abbrev put-3 : List (ℕ × ℕ)
+    put-3 = (heads n + s, head) ∷ link n first after
+
+    -- after two
+    abbrev put-2 : List (ℕ × ℕ)
+    put-2 = (v, next) ∷ put-3
+
+    -- after one
+    abbrev put-1 : List (ℕ × ℕ)
+    put-1 = (n + v, before) ∷ put-2
+
+    -- all the stores
+    abbrev put-0 : List (ℕ × ℕ)
+    put-0 = (2 * n + v, place) ∷ put-1
+
+    off-link : (j : ℕ) → ((u : ℕ) → u < n → first ≡ suc u → j ≢ n + u) → Each (λ i. j ≢ i) (link n first after)
+    off-link j k = link-off n first after j head-le k
+
+    off : (j : ℕ) → (j ≢ 2 * n + v) × (j ≢ n + v) × (j ≢ v) × (j ≢ heads n + s)
+        → ((u : ℕ) → u < n → first ≡ suc u → j ≢ n + u) → getD (store words put-0) j 0 ≡ getD words j 0
+    off j h k = read-other words put-0 j (h .0, (h .1, (h .2, (h .3, off-link j k))))
+
+    off-other : (j : ℕ) → Other n slots j → getD (store words put-0) j 0 ≡ getD words j 0
+    off-other j (inl o) = off j (omega arith) (λ u h e. omega arith)
+    off-other j (inr o) = off j (omega arith) (λ u h e. omega arith)
+
+    out : Free (getD words (2 * n + v) 0)
+    out = omega (arith, place-word n words v hv)
+
+    not-first : first ≡ suc v → ⊥
+    not-first e =
+        let a : Slot n segments words s = C .slot s hs in
+        let g : getD words (2 * n + v) 0 ≡ placeWord segments s = a .held v (first-in n words (heads n + s) (a .nodes) (a .chain) v e) in
+        omega (arith, out)
+
+    put-words : AfterPut n v s (placeWord segments s) words (store words put-0)
+    put-words =
+        let long : heads n + slots ≤ length words = omega (arith, F .long) in
+        let apart : first ≡ suc v → ⊥ = not-first in
+        let w₁ : List ℕ = set words (2 * n + v) place in
+        let w₂ : List ℕ = set w₁ (n + v) before in
+        let w₃ : List ℕ = set w₂ v next in
+        record {
+          place = read-here words (2 * n + v) place put-1 (omega arith)
+              (omega arith, (omega arith, (omega arith, off-link (2 * n + v) (λ u h e. omega arith)))) ∙ stored .0;
+          before = read-here w₁ (n + v) before put-2 (simp length-set (omega arith))
+              (omega arith, (omega arith, off-link (n + v) (λ u h e. omega arith))) ∙ stored .1;
+          next = read-here w₂ v next put-3 (simp length-set (omega arith)) (omega arith, off-link v (λ u h e. omega arith)) ∙ stored .2;
+          head = read-here w₃ (heads n + s) head (link n first after) (simp length-set (omega arith))
+              (off-link (heads n + s) (λ u h e. omega arith)) ∙ omega (arith, stored .3);
+          after = λ u h e. link-here n first after (set w₃ (heads n + s) head) u e (simp length-set (omega arith)) ∙ stored .4;
+          other-heads = λ t d. off (heads n + t) (omega arith) (λ u h e. omega arith);
+          nexts = λ y h d. off y (omega arith) (λ u g e. omega arith);
+          befores = λ y h d k. off (n + y) (omega arith) (λ u g e. omega arith);
+          other-places = λ y h d. off (2 * n + y) (omega arith) (λ u g e. omega arith);
+        }
+
+    put-relinked : Relinked n slots segments words (store words put-0) v (placeWord segments s)
+    put-relinked =
+        relinked-stores F put-0 v (placeWord segments s) hv (put-words .place) (put-words .other-places) off-other
+        (put-chains (F .few) hv hs out C put-words)
+
+  module _ (place before next head : ℕ) where
+    -- the words after the stores that both ways make
+    abbrev put-front : List ℕ
+    put-front = set (set (set (set words (2 * n + v) place) (n + v) before) v next) (heads n + s) head
+
+    -- v is put into slot s
+    abbrev Put : List ℕ → Type 0
+    Put words′ = Relinked n slots segments words words′ v (placeWord segments s)
+
+    -- the code's two ways: slot s was empty, and it was not
+    pub put-empty : (place ≡ placeWord segments s) × (before ≡ heads n + s) × (next ≡ first) × (head ≡ v + 1)
+        → Free (getD (places n words) v 0) → first ≡ 0 → Put put-front
+    put-empty stored free =
+        link-ways n first v Put put-front
+        (put-relinked place before next head v (stored .0, stored .1, stored .2, stored .3, refl) free) .0
+
+    pub put-more : (after : ℕ)
+        → (place ≡ placeWord segments s) × (before ≡ heads n + s) × (next ≡ first) × (head ≡ v + 1) × (after ≡ v)
+        → Free (getD (places n words) v 0) → (first ≡ 0 → ⊥) → Put (set put-front (n + (first - 1)) after)
+    put-more after stored free =
+        link-ways n first after Put put-front (put-relinked place before next head after stored free) .1

@@ -1,0 +1,236 @@
+-- `unlink`: v leaves its slot. `AfterTake` says what the words then are, `take-chains` that such words are in order again, and
+-- `take-last` and `take-more` that the stores of the code's two ways make such words. Assumes nothing.
+use mathlib.Core.Path.{_≡_, refl, sym, ap, _∙_, subst}
+use mathlib.Core.Logic.{inl, inr, _≢_}
+use mathlib.Core.List.{List, [], _∷_}
+use Prim.Native.Nat.{ℕ, zero, suc, _+_, _*_, _-_, _≤_, _<_}
+use native.Mathlib.Nat.{suc-inj}
+use native.Mathlib.Omega.{arith}
+use native.Mathlib.Decide.{ℕ-discrete}
+use lib.ListN.{length, getD, set, length-set}
+use Rattle.buckets.specs.Lists.{In, Once}
+use Rattle.buckets.specs.Lists.Without.{without, in-subst, in-without, not-in-without, in-other, once-without}
+use Rattle.buckets.specs.Words.{placeWord, placeSlot, Held, Named, places, heads, Other, Fits}
+use Rattle.buckets.specs.Words.Laws.{place-word}
+use Rattle.buckets.specs.Links.{Points, Spells, Slot, Chains, Relinked}
+use Rattle.buckets.specs.Links.Chain.{head-points, chain-below, back, next-in, slot-other, chains-again, slots-again}
+use Rattle.buckets.specs.Links.Stores.{store, Each, read-other, read-here, link, link-off, link-here, link-ways, relinked-stores}
+
+-- v is in no slot, and what pointed to it points to the node after it
+record AfterTake (n slots v : ℕ) (words words′ : List ℕ) : Type 0 where
+  link : getD words′ (getD words (n + v) 0) 0 ≡ getD words v 0
+  after : (u : ℕ) → u < n → getD words v 0 ≡ suc u → getD words′ (n + u) 0 ≡ getD words (n + v) 0
+  place : getD words′ (2 * n + v) 0 ≡ 0
+  points : (j : ℕ) → Points n slots j → j ≢ getD words (n + v) 0 → getD words′ j 0 ≡ getD words j 0
+  befores : (x : ℕ) → x < n → (getD words v 0 ≡ suc x → ⊥) → getD words′ (n + x) 0 ≡ getD words (n + x) 0
+  other-places : (x : ℕ) → x < n → x ≢ v → getD words′ (2 * n + x) 0 ≡ getD words (2 * n + x) 0
+
+module _ {n slots segments v s : ℕ} {words words′ : List ℕ} (few : slots < 512) (hv : v < n) (hs : s < slots)
+    (at : getD words (2 * n + v) 0 ≡ placeWord segments s) (C : Chains n slots segments words) (f : AfterTake n slots v words words′) where
+  v-in : In v (C .slot s hs .nodes)
+  v-in = C .slot s hs .all v hv at
+
+  v-back : getD words (getD words (n + v) 0) 0 ≡ suc v
+  v-back = back n words slots (heads n + s) (C .slot s hs .nodes) (head-points n slots s hs) (C .slot s hs .chain) v v-in .1
+
+  -- a word that does not point to v is as it was
+  kept : (j k : ℕ) → Points n slots j → getD words j 0 ≡ k → k ≢ suc v → getD words′ j 0 ≡ k
+  kept j k q e d = f .points j q (λ b. d (sym e ∙ ap (λ (i : ℕ). getD words i 0) b ∙ v-back)) ∙ e
+
+  -- a chain without v, and without the node after v
+  apart : (j : ℕ) (l : List ℕ) → Points n slots j → Spells n words j l → (In v l → ⊥) → ((x : ℕ) → In x l → getD words v 0 ≡ suc x → ⊥)
+      → Spells n words′ j l
+  apart j [] q c k d = kept j 0 q c (omega arith)
+  apart j (x ∷ l) q c k d = (
+    kept j (suc x) q (c .0) (λ e. k (inl (sym (suc-inj e)))),
+    c .1,
+    f .befores x (c .1) (d x (inl refl)) ∙ c .2,
+    apart x l (inl (c .1)) (c .3) (λ i. k (inr i)) (λ y i. d y (inr i)),
+  )
+
+  -- v's own chain, from v on: the word that pointed to v points to what follows v
+  rest : (l : List ℕ) → Spells n words v l → Once (v ∷ l) → Spells n words′ (getD words (n + v) 0) l
+  rest [] c o = f .link ∙ c
+  rest (u ∷ l) c o = (
+    f .link ∙ c .0,
+    c .1,
+    f .after u (c .1) (c .0),
+    apart u l (inl (c .1)) (c .3) (λ i. o .0 (inr i)) (λ x i e. o .1 .0 (in-subst x u l (suc-inj (sym e ∙ c .0)) i)),
+  )
+
+  whole : (j : ℕ) (l : List ℕ) → Points n slots j → Spells n words j l → Once l → (m : In v l) → Spells n words′ j (without v l m)
+  whole j [] q c o m = absurd m
+  whole j (y ∷ l) q c o (inl e) =
+      let b : getD words (n + v) 0 ≡ j = ap (λ (k : ℕ). getD words (n + k) 0) e ∙ c .2 in
+      subst (λ (k : ℕ). Spells n words′ k l) b
+      (rest l (subst (λ (k : ℕ). Spells n words k l) (sym e) (c .3)) (subst (λ (k : ℕ). Once (k ∷ l)) (sym e) o))
+  whole j (y ∷ l) q c o (inr m) = (
+    kept j (suc y) q (c .0) (λ e. o .0 (in-subst v y l (sym (suc-inj e)) m)),
+    c .1,
+    f .befores y (c .1) (λ e. o .0 (next-in n words y l (c .3) v y m e)) ∙ c .2,
+    whole y l (inl (c .1)) (c .3) (o .1) m,
+  )
+
+  own : Slot n segments words′ s
+  own =
+      let a : Slot n segments words s = C .slot s hs in
+      record {
+        nodes = without v (a .nodes) v-in;
+        chain = whole (heads n + s) (a .nodes) (head-points n slots s hs) (a .chain) (a .once) v-in;
+        once = once-without v (a .nodes) v-in (a .once);
+        held = λ x i. is-held x i (in-without v (a .nodes) v-in x i);
+        all = λ x h e. go x h e (ℕ-discrete x v);
+      }
+    where
+      is-held : (x : ℕ) → In x (without v (C .slot s hs .nodes) v-in) → In x (C .slot s hs .nodes)
+          → getD words′ (2 * n + x) 0 ≡ placeWord segments s
+      is-held x i j =
+          f .other-places x (chain-below n words (heads n + s) (C .slot s hs .nodes) (C .slot s hs .chain) x j)
+          (λ e. not-in-without v (C .slot s hs .nodes) v-in (C .slot s hs .once) (in-subst x v (without v (C .slot s hs .nodes) v-in) e i))
+          ∙ C .slot s hs .held x j
+
+      go : (x : ℕ) → x < n → getD words′ (2 * n + x) 0 ≡ placeWord segments s → Dec (x ≡ v) → In x (without v (C .slot s hs .nodes) v-in)
+      go x h e (yes d) =
+          let g : getD words′ (2 * n + v) 0 ≡ placeWord segments s = ap (λ (k : ℕ). getD words′ (2 * n + k) 0) (sym d) ∙ e in
+          let z : getD words′ (2 * n + v) 0 ≡ 0 = f .place in
+          absurd (omega arith)
+      go x h e (no d) = in-other v (C .slot s hs .nodes) v-in x d (C .slot s hs .all x h (sym (f .other-places x h d) ∙ e))
+
+  other : (t : ℕ) → t < slots → t ≢ s → Slot n segments words′ t
+  other t ht d =
+      let a : Slot n segments words t = C .slot t ht in
+      slot-other n words words′ v 0 (f .place) (f .other-places) segments t a
+      (apart (heads n + t) (a .nodes) (head-points n slots t ht) (a .chain) not-v not-after)
+      not-v
+      (omega arith)
+    where
+      not-v : In v (C .slot t ht .nodes) → ⊥
+      not-v i = let g : getD words (2 * n + v) 0 ≡ placeWord segments t = C .slot t ht .held v i in omega arith
+
+      not-after : (x : ℕ) → In x (C .slot t ht .nodes) → getD words v 0 ≡ suc x → ⊥
+      not-after x i e =
+          let b : getD words (2 * n + x) 0 ≡ placeWord segments s =
+          C .slot s hs .held x (next-in n words (heads n + s) (C .slot s hs .nodes) (C .slot s hs .chain) v x v-in e) in
+          let g : getD words (2 * n + x) 0 ≡ placeWord segments t = C .slot t ht .held x i in
+          omega arith
+
+  take-chains : Chains n slots segments words′
+  take-chains =
+      chains-again n words words′ v 0 (f .place) (f .other-places) slots segments C (λ h. absurd (omega arith)) (slots-again s own other)
+
+-- ---- the code's stores
+
+-- a word that points is no before word and no place word, and is the lists'
+points-off : (n slots j : ℕ) → Points n slots j → (x : ℕ) → x < n → (j ≢ n + x) × (j ≢ 2 * n + x)
+points-off n slots j (inl h) x g = omega arith
+points-off n slots j (inr h) x g = omega arith
+
+points-low : (n slots j : ℕ) → Points n slots j → j < heads n + slots
+points-low n slots j (inl h) = omega arith
+points-low n slots j (inr h) = omega arith
+
+points-ours : (n slots i j : ℕ) → Points n slots j → Other n slots i → i ≢ j
+points-ours n slots i j (inl h) (inl o) = omega arith
+points-ours n slots i j (inl h) (inr o) = omega arith
+points-ours n slots i j (inr h) (inl o) = omega arith
+points-ours n slots i j (inr h) (inr o) = omega arith
+
+module _ {n slots segments : ℕ} {words : List ℕ} (F : Fits n slots segments (length words)) (C : Chains n slots segments words)
+    (v : ℕ) (hv : v < n) (held : Held (getD (places n words) v 0)) where
+  -- v's next word, 0 or the node after it and 1
+  abbrev next : ℕ
+  next = getD words v 0
+
+  -- v's before word, the index of the word that points to v
+  abbrev home : ℕ
+  home = getD words (n + v) 0
+
+  -- v's slot
+  abbrev slot-of : ℕ
+  slot-of = placeSlot (getD words (2 * n + v) 0)
+
+  named : Named slots segments (getD words (2 * n + v) 0)
+  named = C .named v hv (omega (arith, place-word n words v hv))
+
+  slot-of-in : In v (C .slot slot-of (named .0) .nodes)
+  slot-of-in = C .slot slot-of (named .0) .all v hv (named .1)
+
+  home-points : Points n slots home
+  home-points =
+      let a : Slot n segments words slot-of = C .slot slot-of (named .0) in
+      back n words slots (heads n + slot-of) (a .nodes) (head-points n slots slot-of (named .0)) (a .chain) v slot-of-in .0
+
+  -- what the code asks of v's words: the word that points to v is in range, and v's next word is 0, or a node's number and 1
+  pub home-low : home < heads n + slots
+  home-low = points-low n slots home home-points
+
+  pub next-le : next ≤ n
+  next-le = go next refl
+    where
+      go : (q : ℕ) → next ≡ q → q ≤ n
+      go zero e = omega arith
+      go (suc u) e =
+          let a : Slot n segments words slot-of = C .slot slot-of (named .0) in
+          chain-below n words (heads n + slot-of) (a .nodes) (a .chain) u
+          (next-in n words (heads n + slot-of) (a .nodes) (a .chain) v u slot-of-in e)
+
+  -- what is stored: v's place word, the word that points to v, and the next node's before word
+  module _ (place link-word after : ℕ) (stored : (place ≡ 0) × (link-word ≡ next) × (after ≡ home)) where
+    -- the stores that are left after one
+    abbrev take-1 : List (ℕ × ℕ)
+    take-1 = (home, link-word) ∷ link n next after
+
+    -- all the stores
+    abbrev take-0 : List (ℕ × ℕ)
+    take-0 = (2 * n + v, place) ∷ take-1
+
+    off-link : (j : ℕ) → ((u : ℕ) → u < n → next ≡ suc u → j ≢ n + u) → Each (λ i. j ≢ i) (link n next after)
+    off-link j k = link-off n next after j next-le k
+
+    off : (j : ℕ) → (j ≢ 2 * n + v) → (j ≢ home) → ((u : ℕ) → u < n → next ≡ suc u → j ≢ n + u)
+        → getD (store words take-0) j 0 ≡ getD words j 0
+    off j h g k = read-other words take-0 j (h, (g, off-link j k))
+
+    off-other : (j : ℕ) → Other n slots j → getD (store words take-0) j 0 ≡ getD words j 0
+    off-other j (inl o) = off j (omega arith) (points-ours n slots j home home-points (inl o)) (λ u h e. omega arith)
+    off-other j (inr o) = off j (omega arith) (points-ours n slots j home home-points (inr o)) (λ u h e. omega arith)
+
+    take-words : AfterTake n slots v words (store words take-0)
+    take-words =
+        let long : heads n + slots ≤ length words = omega (arith, F .long) in
+        let low : home < heads n + slots = home-low in
+        let apart : (x : ℕ) → x < n → (home ≢ n + x) × (home ≢ 2 * n + x) = points-off n slots home home-points in
+        let w₁ : List ℕ = set words (2 * n + v) place in
+        record {
+          place = read-here words (2 * n + v) place take-1 (omega arith)
+              ((λ e. apart v hv .1 (sym e)), off-link (2 * n + v) (λ u h e. omega arith)) ∙ stored .0;
+          link = read-here w₁ home link-word (link n next after) (simp length-set (omega arith)) (off-link home (λ u h e. apart u h .0)) ∙ stored .1;
+          after = λ u h e. link-here n next after (set w₁ home link-word) u e (simp length-set (omega arith)) ∙ stored .2;
+          points = λ j q d. off j (points-off n slots j q v hv .1) d (λ u h e. points-off n slots j q u h .0);
+          befores = λ x h k. off (n + x) (omega arith) (λ e. apart x h .0 (sym e)) (λ u g e. omega arith);
+          other-places = λ x h d. off (2 * n + x) (omega arith) (λ e. apart x h .1 (sym e)) (λ u g e. omega arith);
+        }
+
+    take-relinked : Relinked n slots segments words (store words take-0) v 0
+    take-relinked =
+        relinked-stores F take-0 v 0 hv (take-words .place) (take-words .other-places) off-other
+        (take-chains (F .few) hv (named .0) (named .1) C take-words)
+
+  module _ (place link-word : ℕ) where
+    -- the words after the stores that both ways make
+    abbrev take-front : List ℕ
+    take-front = set (set words (2 * n + v) place) home link-word
+
+    -- v is taken out of its slot
+    abbrev Take : List ℕ → Type 0
+    Take words′ = Relinked n slots segments words words′ v 0
+
+    -- the code's two ways: v was the last of its slot, and it was not
+    pub take-last : (place ≡ 0) × (link-word ≡ next) → next ≡ 0 → Take take-front
+    take-last stored =
+        link-ways n next home Take take-front (take-relinked place link-word home (stored .0, stored .1, refl)) .0
+
+    pub take-more : (after : ℕ) → (place ≡ 0) × (link-word ≡ next) × (after ≡ home) → (next ≡ 0 → ⊥)
+        → Take (set take-front (n + (next - 1)) after)
+    take-more after stored =
+        link-ways n next after Take take-front (take-relinked place link-word after stored) .1
