@@ -1,0 +1,125 @@
+-- The words agree with the shapes of both heaps; and what a shape's theory says, said of the words (document 01, "One-level heap" and
+-- "Two-level heap").
+use Prim.Native.Nat.{ℕ, _+_, _-_, _*_, _^_, _≤_, _<_}
+use native.Mathlib.Nat.{one-le-pow}
+use native.Mathlib.Omega.{arith}
+use mathlib.Core.Path.{_≡_, refl, sym, ap, _∙_}
+use mathlib.Core.Logic.{inl, inr}
+use mathlib.Core.List.{List, [], _∷_}
+use lib.ListN.{length, length-append, length-drop, List·getD-append}
+use borrow.Author.Tests.{lt-ltb, le-ltb}
+use Rattle.theory.specs.Shape.{Shape, oneLevelBuckets, oneLevel, twoLevelBuckets, twoLevel}
+use Rattle.theory.specs.Heap.{bound, rebound, boundsAfter, boundsFrom, firstBounds}
+use Rattle.theory.proofs.Cases.{split}
+use Rattle.theory.proofs.Sums.{getD-listBelow}
+use Rattle.theory.proofs.Heap.Laws.{Lawful}
+use Rattle.theory.proofs.Shapes.Logarithm.{one-level-most, two-level-most}
+use Rattle.theory.proofs.Shapes.OneLevel.{lawful-one}
+use Rattle.theory.proofs.Shapes.TwoLevel.{lawful-two}
+use Rattle.powers.specs.Powers.{powerRow}
+use Rattle.powers.proofs.Rule.{row-length}
+use Rattle.powers.proofs.Used.{row-used}
+use Rattle.bounds.specs.Words.{boundsOf, sizeOf, reboundWords, firstWords, segmentNumber, segmentEnd, segmentLooks, Agrees}
+use Rattle.bounds.specs.Sizes.{oneLevelSizes, twoLevelSizes}
+use Rattle.bounds.proofs.Rebound.{rebound-same, rebound-alike}
+use Rattle.bounds.proofs.First.{boundsFrom-same, first-words-at}
+use Rattle.bounds.proofs.Words.{rebound-words-bounds}
+
+-- ---- both shapes
+
+module _ (n C : ℕ) (few : C ≤ 1048575) where
+  one-size : (i : ℕ) → i < oneLevelBuckets C → sizeOf oneLevelSizes i ≡ oneLevel n C .size i
+  unfolding oneLevelSizes oneLevel
+  one-size i h = getD-listBelow 22 i (oneLevel n C .size) 0 (omega (arith, one-level-most C))
+
+  pub one-agrees : Agrees (oneLevel n C) (oneLevelBuckets C) 1 oneLevelSizes
+  unfolding oneLevelSizes oneLevel segmentNumber segmentEnd segmentLooks
+  one-agrees = record {
+    buckets = refl;
+    size = λ i l h. sym (one-size i h);
+    segment = λ i u x. refl;
+    end = λ i u k. refl;
+    looks = λ k. refl;
+    sized = record {
+      two = lawful-one n C few .two;
+      few = one-level-most C;
+      long = refl;
+      positive = λ i h. rw (one-size i h) (lawful-one n C few .sizes i);
+    };
+    some = omega arith;
+    most = omega arith;
+  }
+
+module _ (n C K : ℕ) (few : C ≤ 1048575) (low : 2 ≤ K) (high : K ≤ 64) where
+  two-size : (i : ℕ) → i < twoLevelBuckets C K → sizeOf (twoLevelSizes K) i ≡ K ^ i
+  unfolding twoLevelSizes
+  two-size i h =
+      List·getD-append (powerRow K) (0 ∷ []) 0 i (omega (arith, row-length K, two-level-most C K)) ∙ row-used C K i few low high h
+
+  pub two-agrees : Agrees (twoLevel n C K) (twoLevelBuckets C K) K (twoLevelSizes K)
+  unfolding twoLevelSizes twoLevel segmentNumber segmentEnd segmentLooks
+  two-agrees = record {
+    buckets = refl;
+    size = λ i l h. sym (two-size i h);
+    segment = λ i u x. elim (split i (twoLevelBuckets C K)) [
+      | inl h ↦ rw (lt-ltb i (twoLevelBuckets C K) h, lt-ltb 1 K low, two-size (i - 1) (omega arith))
+      | inr h ↦ rw (le-ltb i (twoLevelBuckets C K) h, lt-ltb 1 K low)
+    ];
+    end = λ i u k. elim (split i (twoLevelBuckets C K)) [
+      | inl h ↦ rw (lt-ltb i (twoLevelBuckets C K) h, lt-ltb 1 K low, two-size (i - 1) (omega arith))
+      | inr h ↦ rw (le-ltb i (twoLevelBuckets C K) h, lt-ltb 1 K low)
+    ];
+    looks = λ k. rw (lt-ltb 1 K low);
+    sized = record {
+      two = lawful-two n C K low few .two;
+      few = omega (arith, two-level-most C K);
+      long = simp length-append (omega (arith, row-length K));
+      positive = λ i h. rw (two-size i h) (one-le-pow i K (omega arith));
+    };
+    some = omega arith;
+    most = high;
+  }
+
+-- ---- any shape with which words agree
+
+module _ {sh : Shape} {B K : ℕ} {sizes : List ℕ} (a : Agrees sh B K sizes) where
+  pub first-agrees : firstBounds sh ≡ 0 ∷ boundsFrom (sizeOf sizes) (sh .top) 1 0 (B - 1)
+  unfolding firstBounds
+  first-agrees =
+      rw (a .buckets) (ap (λ (l : List ℕ). 0 ∷ l)
+      (boundsFrom-same (sh .size) (sizeOf sizes) (sh .top) 1 0 (B - 1) (λ i l h. a .size i l (omega (arith, a .sized .two)))))
+
+  pub after-agrees : (j k d : ℕ) (u : List ℕ) → j ≤ B
+      → boundsAfter sh j k d u ≡ rebound (sizeOf sizes) (segmentEnd B K sizes j (bound u j) k) (d - 1) 1 (j - 1) u
+  unfolding boundsAfter
+  after-agrees j k d u h =
+      rw (a .end j (bound u j) k) (rebound-same (sh .size) (sizeOf sizes) _ (d - 1) 1 (j - 1) u (λ i l m. a .size i l (omega arith)))
+
+  -- The code's words hold the heap's bounds, at first and after a removal from bucket j.
+  module _ (n : ℕ) (w : List ℕ) (room : 4 * n + B < length w) where
+    pub first-words-agree : (i : ℕ) → 1 ≤ i → i ≤ B → bound (boundsOf n (firstWords n sizes B (sh .top) w)) i ≡ bound (firstBounds sh) i
+    first-words-agree i l h =
+        first-words-at n sizes B (sh .top) w (omega arith) room i l h ∙ sym (ap (λ (u : List ℕ). bound u i) first-agrees)
+
+    pub after-words-agree : (j k d : ℕ) (u : List ℕ) → j ≤ B → B < length u → ((i : ℕ) → 1 ≤ i → i ≤ B → bound (boundsOf n w) i ≡ bound u i)
+        → (i : ℕ) → 1 ≤ i → i ≤ B
+        → bound (boundsOf n (reboundWords n sizes (segmentEnd B K sizes j (bound u j) k) (d - 1) 1 j w)) i ≡ bound (boundsAfter sh j k d u) i
+    after-words-agree j k d u h long same i l m =
+        let end : ℕ = segmentEnd B K sizes j (bound u j) k in
+        ap (λ (v : List ℕ). bound v i) (rebound-words-bounds n sizes end (d - 1) 1 j w (omega arith))
+        ∙ rebound-alike (sizeOf sizes) end (d - 1) 1 (j - 1) (boundsOf n w) u i (rw length-drop (omega arith)) (omega arith) (same i l m)
+        ∙ sym (ap (λ (v : List ℕ). bound v i) (after-agrees j k d u h))
+
+  -- What the segment functions require, of a key x that stands within its bucket.
+  module _ {C S : ℕ} (law : Lawful sh C S) (j u x : ℕ) (low : 1 ≤ j) (under : x ≤ u) (near : j < B → u < x + sh .size j) where
+    pub segment-some : 1 ≤ segmentNumber B K sizes j u x
+    segment-some = rw (a .segment j u x) at (law .low j u x low under (rw (sym (a .buckets)) at near))
+
+    pub end-reached : x ≤ segmentEnd B K sizes j u (segmentNumber B K sizes j u x)
+    end-reached =
+        let e : sh .end j u (sh .segment j u x) ≡ segmentEnd B K sizes j u (segmentNumber B K sizes j u x) =
+        a .end j u (sh .segment j u x) ∙ ap (segmentEnd B K sizes j u) (a .segment j u x) in
+        elim (split j B) [
+          | inl h ↦ omega (arith, law .inside j u x low (omega (arith, a .buckets)) under (near h))
+          | inr h ↦ omega (arith, law .end-last j u (sh .segment j u x) (omega (arith, a .buckets)))
+        ]

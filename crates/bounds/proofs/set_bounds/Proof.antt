@@ -1,0 +1,63 @@
+-- `bounds::set_bounds` meets its contract: the bounds that are left to set, from bucket i on, come out as all of them do. Assumes nothing.
+use Prim.Native.Nat.{_-_, _*_, _≤_}
+use native.Mathlib.Omega.{arith}
+use mathlib.Core.Path.{_≡_, refl, sym, ap₂, _∙_}
+use mathlib.Core.List.{_++_}
+use lib.ListN.{length, take, length-set, take-append-drop}
+use lib.Seq.{take-set-le}
+use borrow.Author.Needs.{needs}
+use Rattle.theory.specs.Heap.{rebound}
+use Rattle.bounds.specs.Words.{boundsOf, sizeOf, reboundWords}
+use Rattle.bounds.proofs.Rebound.{rebound-turn}
+use Rattle.bounds.proofs.set_bounds.Statement.{statement}
+use Rattle.bounds.proofs.set_bounds.Tie as tie
+
+abbrev Inv-loop : tie.InvT-loop
+Inv-loop words₀ n sizes end before from to bound₀ i₀ words bound i =
+    (bound ≤ end)
+    × (length words ≡ length words₀)
+    × (take (4 * n) words ≡ take (4 * n) words₀)
+    × (rebound (sizeOf sizes) end bound i (to - i) (boundsOf n words) ≡ rebound (sizeOf sizes) end before from (to - from) (boundsOf n words₀))
+
+abbrev μ-loop : tie.MeasureT-loop
+μ-loop words₀ n sizes end before from to bound₀ i₀ words bound i = to - i
+
+loop-again : tie.Need-loop-again Inv-loop μ-loop
+loop-again c =
+    let l = c .before .before .before in
+    let a = l .before .before .before .args in
+    let y = c .raised .ensures in
+    let turn = rebound-turn (sizeOf (a .sizes .now)) (a .end) (l .loop .bound) (l .loop .i) (a .to) (4 * a .n) (l .loop .words) (omega arith) in (
+      omega arith,
+      simp length-set (l .loop .inv .1),
+      take-set-le (4 * a .n) (l .loop .words) _ _ (omega arith) ∙ l .loop .inv .2,
+      rw y (turn ∙ l .loop .inv .3),
+    )
+
+returns : tie.Need-returns Inv-loop μ-loop
+unfolding rebound reboundWords
+returns c =
+    let l = c .before in
+    let a = l .before .before .before .args in
+    let none : a .to - l .loop .i ≡ 0 = omega arith in
+    sym (take-append-drop (4 * a .n) (l .loop .words)) ∙ ap₂ _++_ (l .loop .inv .2) (rw none at (l .loop .inv .3))
+
+pub set-bounds-spec : {M : Type 1} → statement M
+set-bounds-spec =
+    tie.close
+    (tie.spec
+    Inv-loop
+    μ-loop
+    (λ c. (search needs, refl, refl, refl))
+    (λ c. search needs)
+    (λ c. search needs)
+    (λ c κs. search needs)
+    (λ c. search needs)
+    (λ c. search needs)
+    (λ c. search needs)
+    (λ c. search needs)
+    (λ c. search needs)
+    (λ c. search needs)
+    loop-again
+    (λ c. search needs)
+    returns)

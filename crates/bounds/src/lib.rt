@@ -1,0 +1,208 @@
+// The bounds of a radix heap, the bucket and the segment of a key, and the sizes of the buckets, for both heaps (document 01, "One-level
+// heap" and "Two-level heap").
+//     words[4 * n + i]    u(i), the bound of bucket i, for 1 ≤ i ≤ B; words[4 * n] is not used
+//     sizes[i]            the size of bucket i, for 1 ≤ i < B, and 1 at i = 0: a segment of bucket i is sizes[i - 1] keys wide
+// The one-level heap has one segment to a bucket.
+ghost use mathlib.Core.Path.{_≡_};
+ghost use Prim.Native.Nat.{_+_, _*_, _≤_, _<_, min};
+ghost use lib.ListN.{length};
+ghost use Rattle.theory.specs.Shape.{ceilLog, oneLevelBuckets, twoLevelBuckets};
+ghost use Rattle.theory.specs.Heap.{bucketFrom};
+ghost use Rattle.bounds.specs.Words.{boundsOf, reboundWords, firstWords, segmented, segmentNumber, segmentEnd, Sized};
+ghost use Rattle.bounds.specs.Sizes.{oneLevelSizes, twoLevelSizes};
+
+// The bucket of a key, searched for from bucket `start` down.
+pub fn bucket_of(words: &[u32], n: usize, key: u32, start: usize) -> usize
+    requires { ⌜ 4 * n + start < length (now words) ⌝ }
+    ensures { λ r. ⌜ r ≡ bucketFrom (boundsOf n (now (words .entry))) key start ⌝ }
+{
+    let mut i = start;
+    while 0 < i {
+        if words[4 * n + i] < key {
+            return i + 1;
+        }
+        i -= 1;
+    }
+    1
+}
+
+// u(from), .., u(to - 1) are set anew: each is the one before and the bucket's size, but no more than `end`. That is found out by a
+// difference, since the sum may not fit.
+pub fn set_bounds(
+    words: &mut [u32],
+    n: usize,
+    sizes: &[u32],
+    end: u32,
+    before: u32,
+    from: usize,
+    to: usize,
+)
+    requires { ⌜ 4 * n + to ≤ length (now words) ⌝ }
+    requires { ⌜ to ≤ length (now sizes) ⌝ }
+    requires { ⌜ before ≤ end ⌝ }
+    ensures { λ _. ⌜ now (words .exit) ≡ reboundWords n (now (sizes .entry)) end before from to (now (words .entry)) ⌝ }
+{
+    let mut bound = before;
+    let mut i = from;
+    while i < to {
+        bound = raised(bound, sizes[i], end);
+        words[4 * n + i] = bound;
+        i += 1;
+    }
+}
+
+// The smaller of `bound` + `size` and `end`.
+fn raised(bound: u32, size: u32, end: u32) -> u32
+    requires { ⌜ bound ≤ end ⌝ }
+    ensures { λ r. ⌜ r ≡ min (bound + size) end ⌝ }
+{
+    if size < end - bound {
+        bound + size
+    } else {
+        end
+    }
+}
+
+// u(1), .., u(B) as they are at first: u(1) is one less than its bucket's size, the others follow from one another as in a removal, and
+// none is above `top`, which is u(B).
+pub fn first_bounds(words: &mut [u32], n: usize, sizes: &[u32], buckets: usize, top: u32)
+    requires { ⌜ 4 * n + buckets < length (now words) ⌝ }
+    requires { ⌜ Sized buckets (now sizes) ⌝ }
+    ensures { λ _. ⌜ now (words .exit) ≡ firstWords n (now (sizes .entry)) buckets top (now (words .entry)) ⌝ }
+{
+    let first = raised(0, sizes[1] - 1, top);
+    words[4 * n + 1] = first;
+    set_bounds(words, n, sizes, top, first, 2, buckets);
+    words[4 * n + buckets] = top;
+}
+
+// Whether a bucket has more than one segment.
+fn is_segmented(segments: usize, buckets: usize, bucket: usize) -> bool
+    ensures { λ r. ⌜ r ≡ segmented buckets segments bucket ⌝ }
+{
+    1 < segments && bucket < buckets
+}
+
+// The segment of a key that stands in a bucket with this bound; segments are counted from the top of a bucket's range.
+pub fn segment_of(
+    sizes: &[u32],
+    segments: usize,
+    buckets: usize,
+    bucket: usize,
+    bound: u32,
+    key: u32,
+) -> usize
+    requires { ⌜ Sized buckets (now sizes) ⌝ }
+    requires { ⌜ 1 ≤ bucket ⌝ }
+    requires { ⌜ key ≤ bound ⌝ }
+    requires { ⌜ 1 ≤ segmentNumber buckets segments (now sizes) bucket bound key ⌝ }
+    ensures { λ r. ⌜ r ≡ segmentNumber buckets segments (now (sizes .entry)) bucket bound key ⌝ }
+{
+    if is_segmented(segments, buckets, bucket) {
+        segments - ((bound - key) / sizes[bucket - 1]) as usize
+    } else {
+        1
+    }
+}
+
+// The upper end of a segment of a bucket with this bound.
+pub fn segment_end(
+    sizes: &[u32],
+    segments: usize,
+    buckets: usize,
+    bucket: usize,
+    bound: u32,
+    segment: usize,
+) -> u32
+    requires { ⌜ Sized buckets (now sizes) ⌝ }
+    requires { ⌜ 1 ≤ bucket ⌝ }
+    requires { ⌜ segment ≤ segments ⌝ }
+    requires { ⌜ 1 ≤ segmentEnd buckets segments (now sizes) bucket bound segment ⌝ }
+    ensures { λ r. ⌜ r ≡ segmentEnd buckets segments (now (sizes .entry)) bucket bound segment ⌝ }
+{
+    if is_segmented(segments, buckets, bucket) {
+        bound - (segments - segment) as u32 * sizes[bucket - 1]
+    } else {
+        bound
+    }
+}
+
+// The least exponent whose power of `base` is above `ceiling`, for both heaps. The next power is formed only
+// from one that is not above `ceiling`, so that it fits.
+fn ceil_log(base: u32, ceiling: u32) -> u32
+    requires { ⌜ 2 ≤ base ⌝ }
+    requires { ⌜ base ≤ 64 ⌝ }
+    requires { ⌜ ceiling ≤ 1048575 ⌝ }
+    ensures { λ r. ⌜ r ≡ ceilLog base (ceiling + 1) ⌝ }
+{
+    let mut exponent = 0;
+    let mut power = 1;
+    while power <= ceiling {
+        power *= base;
+        exponent += 1;
+    }
+    exponent
+}
+
+// B of the one-level heap.
+pub fn one_level_buckets(ceiling: u32) -> u32
+    requires { ⌜ ceiling ≤ 1048575 ⌝ }
+    ensures { λ r. ⌜ r ≡ oneLevelBuckets ceiling ⌝ }
+{
+    ceil_log(2, ceiling) + 2
+}
+
+// B of the two-level heap.
+pub fn two_level_buckets(ceiling: u32, segments: u32) -> u32
+    requires { ⌜ ceiling ≤ 1048575 ⌝ }
+    requires { ⌜ 2 ≤ segments ⌝ }
+    requires { ⌜ segments ≤ 64 ⌝ }
+    ensures { λ r. ⌜ r ≡ twoLevelBuckets ceiling segments ⌝ }
+{
+    let exponent = ceil_log(segments, ceiling);
+    if exponent < 1 { 2 } else { exponent + 1 }
+}
+
+// The sizes of the buckets of the one-level heap.
+pub fn one_level_sizes() -> [u32; 22]
+    ensures { λ r. ⌜ r ≡ oneLevelSizes ⌝ }
+{
+    [
+        1,
+        1,
+        1,
+        2,
+        4,
+        8,
+        16,
+        32,
+        64,
+        128,
+        256,
+        512,
+        1024,
+        2048,
+        4096,
+        8192,
+        16384,
+        32768,
+        65536,
+        131072,
+        262144,
+        524288,
+    ]
+}
+
+// The sizes of the buckets of the two-level heap: the powers of K = segments, and a 0 at the last place, which is no bucket's.
+pub fn two_level_sizes(segments: u32) -> [u32; 22]
+    ensures { λ r. ⌜ r ≡ twoLevelSizes segments ⌝ }
+{
+    let powers = powers::row(segments);
+    let mut sizes = [0; 22];
+    let mut i = 0;
+    while i < 21 {
+        sizes[i] = powers[i];
+        i += 1;
+    }
+    sizes
+}
