@@ -95,7 +95,7 @@ module _ {N : Network} {sh : Shape} {C S m : ℕ} (A : Admissible N C m) (law : 
   scan-resting {v = v} R fit min = relaxing-over (relaxAll-relaxing (N .out v) (λ l q. q) (remove-relaxing R fit min))
 
   -- At first nothing is labelled; then the source is.
-  blank-inv : HeapInv N sh 0 (heapBlank N sh)
+  pub blank-inv : HeapInv N sh 0 (heapBlank N sh)
   unfolding heapBlank
   blank-inv = record {
     bounds = bounds-first law;
@@ -110,7 +110,7 @@ module _ {N : Network} {sh : Shape} {C S m : ℕ} (A : Admissible N C m) (law : 
     looks = omega arith;
   }
 
-  source-labelling : Labelling N sh (heapBlank N sh) (N .source) 0
+  pub source-labelling : Labelling N sh (heapBlank N sh) (N .source) 0
   unfolding heapBlank blank
   source-labelling = record {
     node = A .source-node;

@@ -1,0 +1,62 @@
+-- `checks::map_check` meets its contract: where the sizes pass, the words can be looked at. Assumes nothing.
+use mathlib.Core.Path.{sym, _∙_}
+use mathlib.Core.List.{List, [], _∷_}
+use lib.ListN.{length}
+use borrow.Author.Needs.{needs}
+use Rattle.types.specs.declared.Check.{Check}
+use Rattle.checks.specs.Checks.{sizeChecks, mapChecks, startsCheck, headsCheck, costsCheck}
+use Rattle.checks.proofs.Order.{AllPass, passed-all, all-passed, one, both, stopped, gone-on}
+use Rattle.checks.proofs.Sizes.{sized}
+use Rattle.checks.proofs.map_check.Statement.{statement}
+use Rattle.checks.proofs.map_check.Tie as tie
+
+abbrev sizes : tie.Start → List Check
+sizes s =
+    sizeChecks (s .args .n) (s .args .ceiling) (s .args .source .0) (length (s .args .starts .now)) (length (s .args .heads .now))
+    (length (s .args .costs .now))
+
+abbrev words : tie.Start → List Check
+words s =
+    startsCheck (s .args .n) (length (s .args .heads .now)) (s .args .starts .now)
+    ∷ headsCheck (s .args .n) (s .args .heads .now)
+    ∷ costsCheck (s .args .ceiling) (s .args .costs .now)
+    ∷ []
+
+returns : tie.Need-returns
+unfolding mapChecks
+returns c =
+    let s = c .before .before .before .before .before .before in
+    stopped (sizes s) (words s) (c .before .before .size-check .ensures) (c .enum-told2 .given .1)
+
+passed : (c : tie.After-enum-told) → AllPass (sizes (c .before .before .before .before .before .before))
+passed c = passed-all _ (sym (c .before .before .size-check .ensures) ∙ c .enum-told .given .1)
+
+starts-check-requires : tie.Need-starts-check-requires
+starts-check-requires c κs = sized _ _ _ _ _ _ (passed c) .1
+
+heads-check-requires : tie.Need-heads-check-requires
+heads-check-requires c κs = sized _ _ _ _ _ _ (passed (c .before)) .0
+
+returns-2 : tie.Need-returns-2
+unfolding mapChecks
+returns-2 c =
+    let up-to-7 = c .before .before in
+    let entry = up-to-7 .before .before .before in
+    gone-on (sizes (entry .before .before .before .before .before .before)) (all-passed (passed entry))
+    (both (both (one (up-to-7 .before .before .starts-check .ensures)) (one (up-to-7 .before .heads-check .ensures)) (up-to-7 .first-of .ensures))
+    (one (c .before .costs-check .ensures)) (c .first-of2 .ensures))
+
+pub map-check-spec : {M : Type 1} → statement M
+map-check-spec =
+    tie.close
+    (tie.spec
+    (λ c κs. tt)
+    (λ c. search needs)
+    (λ c. search needs)
+    returns
+    starts-check-requires
+    heads-check-requires
+    (λ c κs. tt)
+    (λ c κs. tt)
+    (λ c κs. tt)
+    returns-2)

@@ -1,0 +1,27 @@
+-- `checks::two_level_check` meets its contract. Assumes nothing.
+use borrow.Author.Needs.{needs}
+use Rattle.checks.specs.Checks.{twoLevelChecks}
+use Rattle.checks.proofs.Order.{one, both}
+use Rattle.checks.proofs.two_level_check.Statement.{statement}
+use Rattle.checks.proofs.two_level_check.Tie as tie
+
+returns : tie.Need-returns
+unfolding twoLevelChecks
+returns c =
+    both (record { is = c .before .before .before .before .map-check .ensures })
+    (both (one (c .before .before .before .segments-check .ensures)) (record { is = c .before .before .run-lists-check .ensures })
+    (c .before .first-of .ensures))
+    (c .first-of2 .ensures) .is
+
+pub two-level-check-spec : {M : Type 1} → statement M
+two-level-check-spec =
+    tie.close
+    (tie.spec
+    (λ c. search needs)
+    (λ c. search needs)
+    (λ c κs. tt)
+    (λ c κs. tt)
+    (λ c κs. tt)
+    (λ c κs. tt)
+    (λ c κs. tt)
+    returns)

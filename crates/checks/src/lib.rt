@@ -1,0 +1,126 @@
+// The checks of what a call is given, in the order of each entry point (document 01, "What a call returns").
+use types::Check;
+use types::Node;
+ghost use mathlib.Core.Path.{_≡_};
+ghost use mathlib.Core.List.{[], _∷_};
+ghost use Rattle.checks.specs.Checks.{firstFault, sizeChecks, mapChecks, runLists, lentChecks, oneLevelChecks, twoLevelChecks};
+
+pub mod limits;
+pub mod numbers;
+pub mod starts;
+
+// Both checks are made, since none writes and a call that passes needs them all; the first fault counts.
+pub fn first_of(first: Check, second: Check) -> Check
+    ensures { λ r. ⌜ r ≡ firstFault (first ∷ second ∷ []) ⌝ }
+{
+    match first {
+        Check::Passed => second,
+        Check::Fault { number, place } => Check::Fault { number, place },
+    }
+}
+
+fn size_check(
+    n: u32,
+    ceiling: u32,
+    source: Node,
+    starts: usize,
+    heads: usize,
+    costs: usize,
+) -> Check
+    ensures { λ r. ⌜ r ≡ firstFault (sizeChecks n ceiling (source .0) starts heads costs) ⌝ }
+{
+    let found = first_of(numbers::nodes_check(n), numbers::ceiling_check(ceiling));
+    let found = first_of(found, numbers::source_check(n, source));
+    let found = first_of(found, numbers::arc_count_check(heads, costs));
+    first_of(found, numbers::start_count_check(n, starts))
+}
+
+// The words are read only once the sizes have passed: number 6 reads n + 1 starts.
+pub fn map_check(
+    n: u32,
+    ceiling: u32,
+    source: Node,
+    starts: &[u32],
+    heads: &[u32],
+    costs: &[u32],
+) -> Check
+    ensures { λ r.
+        ⌜ r ≡ firstFault (mapChecks n ceiling (source .0) (now (starts .entry)) (now (heads .entry)) (now (costs .entry))) ⌝ }
+{
+    let sizes = size_check(n, ceiling, source, starts.len(), heads.len(), costs.len());
+    let Check::Passed = sizes else {
+        return sizes;
+    };
+    let found = first_of(
+        starts::starts_check(n, heads.len(), starts),
+        limits::heads_check(n, heads),
+    );
+    first_of(found, limits::costs_check(ceiling, costs))
+}
+
+fn run_lists_check(
+    n: u32,
+    distances: usize,
+    parents: usize,
+    roster: usize,
+    work: usize,
+    needed: usize,
+) -> Check
+    ensures { λ r. ⌜ r ≡ firstFault (lentChecks 0 (runLists n distances parents roster work needed)) ⌝ }
+{
+    let nodes = n as usize;
+    let found = first_of(
+        numbers::lent_check(0, distances, nodes),
+        numbers::lent_check(1, parents, nodes),
+    );
+    let found = first_of(found, numbers::lent_check(2, roster, nodes));
+    first_of(found, numbers::lent_check(3, work, needed))
+}
+
+pub fn one_level_check(
+    n: u32,
+    ceiling: u32,
+    source: Node,
+    starts: &[u32],
+    heads: &[u32],
+    costs: &[u32],
+    distances: usize,
+    parents: usize,
+    roster: usize,
+    work: usize,
+) -> Check
+    ensures { λ r.
+        ⌜ r ≡ firstFault (oneLevelChecks n ceiling (source .0) (now (starts .entry)) (now (heads .entry)) (now (costs .entry))
+        distances parents roster work) ⌝ }
+{
+    let needed = 4 * n as usize + 64;
+    let map = map_check(n, ceiling, source, starts, heads, costs);
+    let lists = run_lists_check(n, distances, parents, roster, work, needed);
+    first_of(map, lists)
+}
+
+pub fn two_level_check(
+    n: u32,
+    ceiling: u32,
+    source: Node,
+    segments: u32,
+    starts: &[u32],
+    heads: &[u32],
+    costs: &[u32],
+    distances: usize,
+    parents: usize,
+    roster: usize,
+    work: usize,
+) -> Check
+    ensures { λ r.
+        ⌜ r ≡ firstFault (twoLevelChecks n ceiling (source .0) segments (now (starts .entry)) (now (heads .entry)) (now (costs .entry))
+        distances parents roster work) ⌝ }
+{
+    let needed = 4 * n as usize + 384;
+    let map = map_check(n, ceiling, source, starts, heads, costs);
+    let rest = first_of(
+        numbers::segments_check(segments),
+        run_lists_check(n, distances, parents, roster, work, needed),
+    );
+    first_of(map, rest)
+}
