@@ -6,7 +6,7 @@ use native.Mathlib.Numerals.{add-one}
 use native.Mathlib.Omega.{arith}
 use lib.ListN.{length}
 use Rattle.types.specs.declared.Check.the-variants.{Passed}
-use Rattle.theory.specs.Maps.{Map, Valid}
+use Rattle.theory.specs.Maps.{mapOf, Valid}
 use Rattle.checks.specs.Checks.{NoneFalls, firstFault, segmentsCheck, sizeChecks, mapChecks, lentChecks, runLists, oneLevelWork, twoLevelWork, oneLevelChecks, twoLevelChecks}
 use Rattle.checks.proofs.Order.{AllPass, none, more, passed-all, all-passed, first-passed, rest-pass, pass-parts, parts-pass}
 use Rattle.checks.proofs.Sizes.{passed-range, range-passes, passed-ceiling, ceiling-passes, passed-source, source-passes, passed-arcs, arcs-pass, passed-starts, starts-pass, passed-lent, lent-passes}
@@ -15,11 +15,8 @@ use Rattle.checks.proofs.Words.{heads-below, heads-pass, costs-most, co
 
 -- ---- a map
 
-abbrev pub lentMap : (n : ℕ) → (starts heads costs : List ℕ) → Map
-lentMap n starts heads costs = record { nodes = n; starts = starts; heads = heads; costs = costs }
-
 module _ (n C source : ℕ) (starts heads costs : List ℕ) where
-  valid : AllPass (mapChecks n C source starts heads costs) → Valid (lentMap n starts heads costs) C source
+  valid : AllPass (mapChecks n C source starts heads costs) → Valid (mapOf n starts heads costs) C source
   unfolding sizeChecks mapChecks
   valid (more nodes (more ceiling (more from (more arcs (more count (more words (more below (more most none)))))))) =
       let range = passed-range 1 n 1 4096 nodes in
@@ -42,10 +39,10 @@ module _ (n C source : ℕ) (starts heads costs : List ℕ) where
         costs-most = λ a l. costs-most C costs most a (omega (arith, counts .1));
       }
 
-  pub passed-valid : firstFault (mapChecks n C source starts heads costs) ≡ Passed → Valid (lentMap n starts heads costs) C source
+  pub passed-valid : firstFault (mapChecks n C source starts heads costs) ≡ Passed → Valid (mapOf n starts heads costs) C source
   passed-valid e = valid (passed-all (mapChecks n C source starts heads costs) e)
 
-  pub valid-passed : Valid (lentMap n starts heads costs) C source → firstFault (mapChecks n C source starts heads costs) ≡ Passed
+  pub valid-passed : Valid (mapOf n starts heads costs) C source → firstFault (mapChecks n C source starts heads costs) ≡ Passed
   unfolding sizeChecks mapChecks
   valid-passed v =
       all-passed
@@ -101,7 +98,7 @@ module _ (n C source : ℕ) (starts heads costs : List ℕ) (distances parents r
       let parts = pass-parts (mapChecks n C source starts heads costs) lists e in
       (parts .0, lists-fit n distances parents roster work (oneLevelWork n) (passed-all lists (parts .1)))
 
-  pub one-level-passes : Valid (lentMap n starts heads costs) C source → ListsFit n distances parents roster work (oneLevelWork n)
+  pub one-level-passes : Valid (mapOf n starts heads costs) C source → ListsFit n distances parents roster work (oneLevelWork n)
       → firstFault (oneLevelChecks n C source starts heads costs distances parents roster work) ≡ Passed
   unfolding oneLevelChecks
   one-level-passes v fit =
@@ -120,7 +117,7 @@ module _ (n C source : ℕ) (starts heads costs : List ℕ) (distances parents r
         let passed = passed-all lists (parts .1) in
         (parts .0, passed-range 9 K 2 64 (first-passed passed), lists-fit n distances parents roster work (twoLevelWork n) (rest-pass passed))
 
-    pub two-level-passes : Valid (lentMap n starts heads costs) C source → 2 ≤ K → K ≤ 64
+    pub two-level-passes : Valid (mapOf n starts heads costs) C source → 2 ≤ K → K ≤ 64
         → ListsFit n distances parents roster work (twoLevelWork n)
         → firstFault (twoLevelChecks n C source K starts heads costs distances parents roster work) ≡ Passed
     unfolding twoLevelChecks

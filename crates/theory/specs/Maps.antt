@@ -17,6 +17,10 @@ pub record Map : Type 0 where
   pub heads : List ℕ
   pub costs : List ℕ
 
+-- The map of lent lists (document 01, "What the planner holds and leaves out").
+abbrev pub mapOf : (n : ℕ) → (starts heads costs : List ℕ) → Map
+mapOf n starts heads costs = record { nodes = n; starts = starts; heads = heads; costs = costs }
+
 -- m, the number of arcs (document 01, "What the planner holds and leaves out").
 abbrev pub arcs : Map → ℕ
 arcs M = length (M .heads)

@@ -138,7 +138,7 @@ module _ {N : Network} {sh : Shape} {C S m : ℕ} (A : Admissible N C m) (law : 
     last : ℕ
     resting : Resting N sh C S last h
 
-  scan-search : (j k d v : ℕ) (h : Heap) → Least (h .search) v d → heapScan N sh j k d v h .search ≡ scan N v (h .search)
+  pub scan-search : (j k d v : ℕ) (h : Heap) → Least (h .search) v d → heapScan N sh j k d v h .search ≡ scan N v (h .search)
   unfolding heapScan heapRemove scan
   scan-search j k d v h min = rw (min .key) (relaxAll-search sh d (N .out v) (heapRemove sh j k d v h))
 

@@ -51,7 +51,7 @@ module _ (M : Map) (source v : ℕ) where
   leaves-out a h = linksFrom-in (arcLinks M) (startOf M v) (startOf M (suc v) - startOf M v) a (linkOf M a) (h .0) (omega (arith, h .1)) (List·Memᴰ·head refl)
 
 module _ {M : Map} {C source : ℕ} (valid : Valid M C source) where
-  starts-mono : (v w : ℕ) → v ≤ w → w ≤ M .nodes → startOf M v ≤ startOf M w
+  pub starts-mono : (v w : ℕ) → v ≤ w → w ≤ M .nodes → startOf M v ≤ startOf M w
   starts-mono v zero l h = let e : v ≡ 0 = omega arith in rw e (omega arith)
   starts-mono v (suc w) l h = elim (split v (suc w)) [
     | inl k ↦ omega (arith, starts-mono v w (omega arith) (omega arith), valid .starts-rise w (omega arith))

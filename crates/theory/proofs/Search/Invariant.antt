@@ -26,6 +26,11 @@ known unlabelled = 0
 known labelled = 1
 known scanned = 1
 
+pub known-low : (m : Mark) → known m ≤ 1
+known-low unlabelled = omega arith
+known-low labelled = omega arith
+known-low scanned = omega arith
+
 abbrev pub linksOf : Network → ℕ → Mark → ℕ
 linksOf N v unlabelled = 0
 linksOf N v labelled = 0

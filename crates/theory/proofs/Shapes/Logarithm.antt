@@ -53,7 +53,7 @@ logFrom-most (suc fuel) b x e = go (leb x (b ^ e)) (logFrom-most fuel b x (suc e
     go true ih = omega arith
     go false ih = omega arith
 
-ceilLog-most : (b x : ℕ) → ceilLog b x ≤ 20
+pub ceilLog-most : (b x : ℕ) → ceilLog b x ≤ 20
 unfolding ceilLog
 ceilLog-most b x = omega (arith, logFrom-most 20 b x 0)
 

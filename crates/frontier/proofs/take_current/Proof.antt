@@ -1,0 +1,31 @@
+-- `frontier::take_current` meets its contract.
+use Rattle.frontier.specs.Frontier.Laws.{set-bits, inhabited, taken-first}
+use borrow.Author.Needs.{needs}
+use Rattle.frontier.proofs.take_current.Statement.{statement}
+use Rattle.frontier.proofs.take_current.Tie as tie
+
+take-smallest-requires : tie.Need-take-smallest-requires
+take-smallest-requires c κs =
+    let d = c .before .before in
+    (set-bits (d .pre .0), inhabited (d .pre .0) (d .pre .1))
+
+returns : tie.Need-returns
+returns c =
+    let d = c .before .before .before .before .before .before in
+    taken-first (d .pre .0) (c .before .before .before .take-smallest .ensures)
+
+pub take-current-spec : {M : Type 1} → statement M
+take-current-spec =
+    tie.close
+    (tie.spec
+    (λ c. search needs)
+    (λ c. search needs)
+    (λ c. search needs)
+    take-smallest-requires
+    (λ c. search needs)
+    (λ c. search needs)
+    (λ c. search needs)
+    (λ c. search needs)
+    (λ c. search needs)
+    (λ c. search needs)
+    returns)

@@ -1,0 +1,75 @@
+// The labelled nodes of a run in its work words: those at the key that was scanned last as bits by number, every other one in the list of
+// its slot. The place word of a node, words[2n + v], tells which: 0 unlabelled, 1 in the bits, 2 scanned, else the word of its slot.
+//     words[0 .. 3n)            the lists' next, before and place words
+//     words[3n .. 4n)           the bits
+//     words[4n .. 4n + 24)      the bounds, which this crate leaves alone
+//     words[4n + 24 .. 4n + 28) the summary of the bits
+//     words[4n + 32 .. )        the lists' heads and counts
+// Callers keep `Frontier` shut and go by the place words.
+use types::Node;
+ghost use mathlib.Core.Path.{_≡_};
+ghost use Prim.Native.Nat.{_<_, _≤_};
+ghost use lib.ListN.{getD};
+ghost use Rattle.buckets.specs.Words.{places, placeWord, bucketOf};
+ghost use Rattle.frontier.specs.Frontier.{Frontier, Placed, Current, FirstCurrent};
+
+// v, which is unlabelled, is put among the nodes at the current key.
+pub fn enter_current(words: &mut [u32], n: usize, slots: usize, segments: usize, v: Node)
+    requires { ⌜ Frontier n slots segments (now words) ⌝ }
+    requires { ⌜ (v .0 < n) × (getD (places n (now words)) (v .0) 0 ≡ 0) ⌝ }
+    ensures { λ _. ⌜ Placed n slots segments (now (words .entry)) (now (words .exit)) (v .0) 1 ⌝ }
+{
+    bits::insert(words, n, 3 * n, 4 * n + 24, v);
+    let at = v.0 as usize;
+    words[2 * n + at] = 1;
+}
+
+// The node of smallest number at the current key leaves as scanned.
+pub fn take_current(words: &mut [u32], n: usize, slots: usize, segments: usize) -> Node
+    requires { ⌜ Frontier n slots segments (now words) ⌝ }
+    requires { ⌜ Current n (now words) ⌝ }
+    ensures { λ v. ⌜ FirstCurrent n slots segments (now (words .entry)) (now (words .exit)) (v .0) ⌝ }
+{
+    let v = bits::take_smallest(words, n, 3 * n, 4 * n + 24);
+    let at = v.0 as usize;
+    words[2 * n + at] = 2;
+    v
+}
+
+// v, which is unlabelled, is put in a slot.
+pub fn enter_slot(
+    words: &mut [u32],
+    n: usize,
+    slots: usize,
+    segments: usize,
+    v: Node,
+    bucket: usize,
+    slot: usize,
+)
+    requires { ⌜ Frontier n slots segments (now words) ⌝ }
+    requires { ⌜ (v .0 < n) × (getD (places n (now words)) (v .0) 0 ≡ 0) ⌝ }
+    requires { ⌜ (slot < slots) × (bucket ≡ bucketOf segments slot) ⌝ }
+    ensures { λ _. ⌜ Placed n slots segments (now (words .entry)) (now (words .exit)) (v .0) (placeWord segments slot) ⌝ }
+{
+    buckets::put(words, n, slots, segments, v, bucket, slot);
+}
+
+// v leaves its slot, as unlabelled.
+pub fn leave_slot(words: &mut [u32], n: usize, slots: usize, segments: usize, v: Node)
+    requires { ⌜ Frontier n slots segments (now words) ⌝ }
+    requires { ⌜ (v .0 < n) × (512 ≤ getD (places n (now words)) (v .0) 0) ⌝ }
+    ensures { λ _. ⌜ Placed n slots segments (now (words .entry)) (now (words .exit)) (v .0) 0 ⌝ }
+{
+    buckets::take(words, n, slots, segments, v);
+}
+
+// v leaves its slot as scanned.
+pub fn scan_slot(words: &mut [u32], n: usize, slots: usize, segments: usize, v: Node)
+    requires { ⌜ Frontier n slots segments (now words) ⌝ }
+    requires { ⌜ (v .0 < n) × (512 ≤ getD (places n (now words)) (v .0) 0) ⌝ }
+    ensures { λ _. ⌜ Placed n slots segments (now (words .entry)) (now (words .exit)) (v .0) 2 ⌝ }
+{
+    buckets::take(words, n, slots, segments, v);
+    let at = v.0 as usize;
+    words[2 * n + at] = 2;
+}

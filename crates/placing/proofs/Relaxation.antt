@@ -1,0 +1,88 @@
+-- When an arc is taken: the sum fits, its test is the step's, and a head that improves is labelled.
+use Prim.Native.Nat.{ℕ, suc, _+_, _*_, _≤_, _<_}
+use native.Mathlib.Omega.{arith}
+use mathlib.Core.Path.{_≡_, refl, sym, _∙_, ap}
+use mathlib.Core.Bool.{Bool, true, false, cond}
+use mathlib.Core.List.{List, [], _∷_}
+use lib.Dec.{ltb}
+use lib.ListN.{length, getD}
+use borrow.Author.Tests.{lt-ltb, le-ltb}
+use Rattle.theory.specs.Sums.{sumBelow}
+use Rattle.theory.specs.Maps.{none}
+use Rattle.theory.specs.Network.{Link, Network}
+use Rattle.theory.specs.Search.{Mark, unlabelled, labelled, scanned, mark, distance, below, improves}
+use Rattle.theory.specs.Heap.{Heap, heapLabel, heapRelax}
+use Rattle.theory.proofs.Sums.{sum-mono, sum-ones}
+use Rattle.theory.proofs.Search.Invariant.{SearchInv, Scanning, known, known-low, linksOf, sums-finite}
+use Rattle.theory.proofs.Search.Relaxing.{head-node, sum-few}
+use Rattle.theory.proofs.Heap.Run.{Relaxing, improving}
+use Rattle.state.specs.declared.Layout.{Layout}
+use Rattle.state.specs.declared.State.{State}
+use Rattle.state.specs.Stands.{Setting, Lists, Stands}
+use Rattle.state.proofs.Find.{getD-inside}
+use Rattle.placing.specs.Placing.{Labels, Relaxes}
+
+links-low : (N : Network) (v : ℕ) (m : Mark) → linksOf N v m ≤ length (N .out v)
+links-low N v unlabelled = omega arith
+links-low N v labelled = omega arith
+links-low N v scanned = omega arith
+
+module _ {layout : Layout} {sizes : List ℕ} {X : Setting layout sizes} {before : List ℕ} {u : ℕ} {l : Link} {ls : List Link} {h : Heap} {lists : Lists} {s : State}
+    (R : Relaxes X before u l ls h lists s) where
+  abbrev N : Network
+  N = X .network
+
+  abbrev scanning : Scanning N (X .ceiling) u (s .front) (l ∷ ls) (h .search)
+  scanning = R .relaxing .scanning
+
+  sum-low : s .front + l .cost < none
+  sum-low = omega (arith, sum-few (X .admissible) scanning (R .member), sums-finite (X .admissible))
+
+  pub sum-fits : s .front + l .cost < 4294967296
+  sum-fits = omega (arith, sum-low)
+
+  pub head-in : l .head < length (lists .distances)
+  head-in = omega (arith, ap length (R .stands .distances), scanning .inv .distances-length, head-node (X .admissible) scanning (R .member))
+
+  pub distance-read : getD (lists .distances) (l .head) 0 ≡ distance (h .search) (l .head)
+  distance-read = getD-inside (lists .distances) (l .head) 0 none head-in ∙ ap (λ (d : List ℕ). getD d (l .head) none) (R .stands .distances)
+
+  -- The test of the words is the step's: an unlabelled head's distance is none, and the sum is below it.
+  improves-read : improves (s .front) l (h .search) ≡ ltb (s .front + l .cost) (distance (h .search) (l .head))
+  improves-read = go (mark (h .search) (l .head)) refl
+    where
+      go : (m : Mark) → mark (h .search) (l .head) ≡ m → below m (s .front + l .cost) (distance (h .search) (l .head)) ≡ ltb (s .front + l .cost) (distance (h .search) (l .head))
+      go unlabelled e = sym (lt-ltb (s .front + l .cost) (distance (h .search) (l .head)) (omega (arith, scanning .inv .unknown (l .head) e, sum-low)))
+      go labelled e = refl
+      go scanned e = refl
+
+  improved : s .front + l .cost < getD (lists .distances) (l .head) 0 → improves (s .front) l (h .search) ≡ true
+  improved less = improves-read ∙ lt-ltb (s .front + l .cost) (distance (h .search) (l .head)) (omega (arith, distance-read))
+
+  counts : (h .search .insertions ≤ 4096) × (h .search .decreases ≤ 65537)
+  counts =
+      let i = scanning .inv .insertions-count in
+      let a = sum-mono (N .nodes) (λ v. known (mark (h .search) v)) (λ v. 1) (λ v _. known-low (mark (h .search) v)) in
+      let b = sum-mono (N .nodes) (λ v. linksOf N v (mark (h .search) v)) (λ v. length (N .out v)) (λ v _. links-low N v (mark (h .search) v)) in
+      (omega (arith, sum-ones (N .nodes), X .admissible .few-nodes), omega (arith, scanning .inv .updates-count, X .admissible .links, X .admissible .few-arcs))
+
+  pub relax-labels : s .front + l .cost < getD (lists .distances) (l .head) 0 → Labels X before h lists s (l .head) (s .front + l .cost)
+  relax-labels less = record {
+    stands = R .stands;
+    inv = R .relaxing .inv;
+    labelling = improving (X .admissible) (X .lawful) (X .room) (R .member) scanning (improved less);
+    late = omega arith;
+    parents-long = ap length (R .stands .parents) ∙ scanning .inv .parents-length ∙ X .nodes;
+    insertions-few = omega (arith, R .stands .insertions, counts .0);
+    decreases-few = omega (arith, R .stands .decreases, counts .1);
+  }
+
+  pub relaxed-label : s .front + l .cost < getD (lists .distances) (l .head) 0 → heapLabel (X .shape) (l .head) (s .front + l .cost) (l .arc) h ≡ heapRelax (X .shape) (s .front) l h
+  unfolding heapRelax
+  relaxed-label less = rw (improved less)
+
+  pub relaxed-same : getD (lists .distances) (l .head) 0 ≤ s .front + l .cost → h ≡ heapRelax (X .shape) (s .front) l h
+  unfolding heapRelax
+  relaxed-same more =
+      let e : improves (s .front) l (h .search) ≡ false = improves-read ∙ le-ltb (s .front + l .cost) (distance (h .search) (l .head)) (omega (arith, distance-read)) in
+      rw e

@@ -1,0 +1,77 @@
+-- What placements need of the words, and what they leave.
+use Prim.Native.Nat.{ℕ, _+_, _-_, _*_, _≤_, _<_}
+use mathlib.Core.Path.{_≡_}
+use mathlib.Core.List.{List, _∷_, List·Memᴰ}
+use lib.ListN.{length, getD}
+use Rattle.theory.specs.Network.{Link}
+use Rattle.theory.specs.Heap.{Heap}
+use Rattle.theory.proofs.Heap.Invariant.{HeapInv}
+use Rattle.theory.proofs.Heap.Label.{Labelling}
+use Rattle.theory.proofs.Heap.Run.{Relaxing}
+use Rattle.bounds.specs.Words.{boundsOf, Sized}
+use Rattle.buckets.specs.Words.{places}
+use Rattle.frontier.specs.Frontier.{Frontier, Placed}
+use Rattle.state.specs.declared.Layout.{Layout}
+use Rattle.state.specs.declared.State.{State}
+use Rattle.state.specs.Places.{isWord}
+use Rattle.state.specs.Slots.{keyWord, Enters}
+use Rattle.state.specs.Stands.{Setting, Lists, Stands}
+
+-- A layout whose numbers are those of a heap with these sizes.
+pub record Formed (layout : Layout) (sizes : List ℕ) : Type 0 where
+  pub sized : Sized (layout .buckets) sizes
+  pub slots : layout .slots ≡ (layout .buckets - 1) * layout .segments + 1
+
+-- Node v is unlabelled in the words, and the place of its key is one that there is.
+pub record Entering (layout : Layout) (sizes words : List ℕ) (front v key start : ℕ) : Type 0 where
+  pub formed : Formed layout sizes
+  pub frontier : Frontier (layout .nodes) (layout .slots) (layout .segments) words
+  pub node : v < layout .nodes
+  pub unlabelled : getD (places (layout .nodes) words) v 0 ≡ 0
+  pub enters : Enters (layout .buckets) (layout .segments) sizes (boundsOf (layout .nodes) words) front key start
+
+-- Its place word is that of its key; 1 is counted where it is the current one.
+pub record Entered (layout : Layout) (sizes words words′ : List ℕ) (front v key start r : ℕ) : Type 0 where
+  pub placed : Placed (layout .nodes) (layout .slots) (layout .segments) words words′ v (keyWord (layout .buckets) (layout .segments) sizes (boundsOf (layout .nodes) words) front key start)
+  pub counted : r ≡ isWord 1 (keyWord (layout .buckets) (layout .segments) sizes (boundsOf (layout .nodes) words) front key start)
+
+-- The lists of a run, and a link, from their parts.
+abbrev pub lists : (words distances parents roster : List ℕ) → Lists
+lists words distances parents roster = record { words = words; distances = distances; parents = parents; roster = roster }
+
+abbrev pub link : (arc head cost : ℕ) → Link
+link arc head cost = record { arc = arc; head = head; cost = cost }
+
+-- The words stand for a heap in which v's key falls to x.
+pub record Labels {layout : Layout} {sizes : List ℕ} (X : Setting layout sizes) (before : List ℕ) (h : Heap) (l : Lists) (s : State) (v x : ℕ) : Type 0 where
+  pub stands : Stands layout (X .shape) before h l s
+  pub inv : HeapInv (X .network) (X .shape) (s .front) h
+  pub labelling : Labelling (X .network) (X .shape) h v x
+  pub late : s .front ≤ x
+  pub parents-long : length (l .parents) ≡ layout .nodes
+  pub insertions-few : s .tally .insertions < 4294967295
+  pub decreases-few : s .tally .decreases < 4294967295
+
+-- Some heap is so.
+pub record SomeLabels (layout : Layout) (sizes words distances parents : List ℕ) (s : State) (v x : ℕ) : Type 0 where
+  pub setting : Setting layout sizes
+  pub before : List ℕ
+  pub roster : List ℕ
+  pub heap : Heap
+  pub labels : Labels setting before heap (lists words distances parents roster) s v x
+
+-- The words stand for a heap in the scan of u, with link l next and ls after it.
+pub record Relaxes {layout : Layout} {sizes : List ℕ} (X : Setting layout sizes) (before : List ℕ) (u : ℕ) (l : Link) (ls : List Link) (h : Heap) (lists : Lists) (s : State) : Type 0 where
+  pub stands : Stands layout (X .shape) before h lists s
+  pub relaxing : Relaxing (X .network) (X .shape) (X .ceiling) (X .segment-looks) u (s .front) (l ∷ ls) h
+  pub member : List·Memᴰ l (X .network .out u)
+
+-- Some heap is so.
+pub record SomeRelaxes (layout : Layout) (sizes words distances parents : List ℕ) (s : State) (l : Link) : Type 0 where
+  pub setting : Setting layout sizes
+  pub before : List ℕ
+  pub roster : List ℕ
+  pub tail : ℕ
+  pub left : List Link
+  pub heap : Heap
+  pub relaxes : Relaxes setting before tail l left heap (lists words distances parents roster) s

@@ -1,0 +1,128 @@
+// Placements of nodes: insertions and decreases, and the relaxation of an arc that makes them (document 01, "The search" and "The tallies").
+use state::Layout;
+use state::State;
+use types::Arc;
+use types::Node;
+ghost use mathlib.Core.Path.{_≡_};
+ghost use mathlib.Core.List.{List, _∷_};
+ghost use Prim.Native.Nat.{ℕ, _+_};
+ghost use lib.ListN.{getD};
+ghost use Rattle.buckets.specs.Words.{places};
+ghost use Rattle.theory.specs.Network.{Link};
+ghost use Rattle.theory.specs.Heap.{Heap, heapLabel, heapRelax};
+ghost use Rattle.state.specs.Stands.{Setting, Stands};
+ghost use Rattle.placing.specs.Placing.{Entering, Entered, lists, link, Labels, SomeLabels, Relaxes, SomeRelaxes};
+
+// Node v, unlabelled in the words, is put where its key belongs, searched for from bucket `start` down; 1 if that is at the current key.
+pub fn enter(
+    words: &mut [u32],
+    sizes: &[u32],
+    layout: Layout,
+    front: u32,
+    v: Node,
+    key: u32,
+    start: usize,
+) -> u32
+    requires { ⌜ Entering layout (now sizes) (now words) front (v .0) key start ⌝ }
+    ensures { λ r. ⌜ Entered layout (now (sizes .entry)) (now (words .entry)) (now (words .exit)) front (v .0) key start r ⌝ }
+{
+    let n = layout.nodes;
+    let slots = layout.slots;
+    let segments = layout.segments;
+    if key == front {
+        frontier::enter_current(words, n, slots, segments, v);
+        return 1;
+    }
+    let bucket = bounds::bucket_of(words, n, key, start);
+    let bound = words[4 * n + bucket];
+    let segment = bounds::segment_of(sizes, segments, layout.buckets, bucket, bound, key);
+    let slot = (bucket - 1) * segments + (segment - 1);
+    frontier::enter_slot(words, n, slots, segments, v, bucket, slot);
+    0
+}
+
+// The distance of v falls to `sum`, by this arc: v is inserted or decreased.
+pub fn label(
+    words: &mut [u32],
+    distances: &mut [u32],
+    parents: &mut [u32],
+    sizes: &[u32],
+    layout: Layout,
+    state: State,
+    v: Node,
+    arc: Arc,
+    sum: u32,
+) -> State
+    requires { ⌜ SomeLabels layout (now sizes) (now words) (now distances) (now parents) state (v .0) sum ⌝ }
+    ensures { λ r. ⌜ ((X : Setting layout (now (sizes .entry))) (before roster : List ℕ) (h : Heap)
+        → Labels X before h (lists (now (words .entry)) (now (distances .entry)) (now (parents .entry)) roster) state (v .0) sum
+        → Stands layout (X .shape) before (heapLabel (X .shape) (v .0) sum (arc .0) h) (lists (now (words .exit)) (now (distances .exit)) (now (parents .exit)) roster) r) ⌝ }
+    ensures front { λ r. ⌜ r .front ≡ state .front ⌝ }
+{
+    let n = layout.nodes;
+    let at = v.0 as usize;
+    distances[at] = sum;
+    parents[at] = arc.0;
+    let place = words[2 * n + at];
+    if place == 0 {
+        let current = enter(words, sizes, layout, state.front, v, sum, layout.buckets);
+        return State {
+            front: state.front,
+            current: state.current + current,
+            reached: state.reached,
+            tally: state.tally.inserted(),
+        };
+    }
+    frontier::leave_slot(words, n, layout.slots, layout.segments, v);
+    let current = enter(
+        words,
+        sizes,
+        layout,
+        state.front,
+        v,
+        sum,
+        (place / 512) as usize,
+    );
+    State {
+        front: state.front,
+        current: state.current + current,
+        reached: state.reached,
+        tally: state.tally.decreased(),
+    }
+}
+
+// An arc of the node scanned last is taken. An unlabelled head's distance is the mark for "none", which is above every sum.
+pub fn relax(
+    words: &mut [u32],
+    distances: &mut [u32],
+    parents: &mut [u32],
+    sizes: &[u32],
+    layout: Layout,
+    state: State,
+    head: Node,
+    arc: Arc,
+    cost: u32,
+) -> State
+    requires { ⌜ SomeRelaxes layout (now sizes) (now words) (now distances) (now parents) state (link (arc .0) (head .0) cost) ⌝ }
+    ensures { λ r. ⌜ ((X : Setting layout (now (sizes .entry))) (before roster : List ℕ) (u : ℕ) (ls : List Link) (h : Heap)
+        → Relaxes X before u (link (arc .0) (head .0) cost) ls h (lists (now (words .entry)) (now (distances .entry)) (now (parents .entry)) roster) state
+        → Stands layout (X .shape) before (heapRelax (X .shape) (state .front) (link (arc .0) (head .0) cost) h) (lists (now (words .exit)) (now (distances .exit)) (now (parents .exit)) roster) r) ⌝ }
+    ensures front { λ r. ⌜ r .front ≡ state .front ⌝ }
+{
+    let sum = state.front + cost;
+    let at = head.0 as usize;
+    if sum < distances[at] {
+        return label(
+            words,
+            distances,
+            parents,
+            sizes,
+            layout,
+            state,
+            head,
+            arc,
+            sum,
+        );
+    }
+    state
+}

@@ -1,0 +1,58 @@
+-- The numbers of a heap between two removals are small.
+use Prim.Native.Nat.{ℕ, _+_, _-_, _*_, _≤_, _<_}
+use native.Mathlib.Omega.{arith}
+use native.Mathlib.Nat.{mul-le-mul-right, mul-le-mul-left}
+use mathlib.Core.Path.{_≡_, refl, sym, _∙_, ap}
+use mathlib.Core.Logic.{inl, inr}
+use mathlib.Core.List.{List, _++_}
+use borrow.Author.Tests.{lt-ltb, le-ltb}
+use lib.ListN.{length, drop, length-append, length-drop}
+use Rattle.theory.specs.Sums.{sumBelow}
+use Rattle.theory.specs.Search.{mark}
+use Rattle.theory.specs.Heap.{Heap}
+use Rattle.theory.proofs.Cases.{split}
+use Rattle.theory.proofs.Sums.{sum-mono, sum-ones}
+use Rattle.theory.proofs.Search.Invariant.{known, known-low, scans-fewer}
+use Rattle.state.specs.declared.Layout.{Layout}
+use Rattle.state.specs.declared.State.{State}
+use Rattle.state.specs.Stands.{Setting, Lists, Stands}
+use Rattle.bounds.specs.Words.{segmentLooks}
+use Rattle.removal.specs.Removing.{Rests, looksOf}
+
+pub looks-most : (K j k : ℕ) → looksOf K j k ≤ j + k
+unfolding segmentLooks
+looks-most K j k = elim (split 1 K) [ inl l ↦ rw (lt-ltb 1 K l) (omega arith) | inr l ↦ rw (le-ltb 1 K l) (omega arith) ]
+
+module _ {layout : Layout} {sizes : List ℕ} {X : Setting layout sizes} {before : List ℕ} {h : Heap} {l : Lists} {s : State} (R : Rests X before h l s) where
+  abbrev n : ℕ
+  n = X .network .nodes
+
+  pub reached-low : s .reached < layout .nodes
+  reached-low = omega (arith, R .stands .reached, scans-fewer (R .resting .rest) (R .node) (R .labelled), X .nodes)
+
+  pub roster-long : s .reached < length (l .roster)
+  roster-long =
+      let e : length (l .roster) ≡ length (h .search .roster) + (length before - length (h .search .roster)) =
+      ap length (R .stands .roster) ∙ length-append (h .search .roster) (drop (length (h .search .roster)) before)
+      ∙ ap (λ (k : ℕ). length (h .search .roster) + k) (length-drop (length (h .search .roster)) before) in
+      omega (arith, reached-low, R .stands .reached, R .long)
+
+  pub nodes-few : layout .nodes ≤ 4096
+  nodes-few = R .stands .frontier .few
+
+  insertions-few : h .search .insertions ≤ 4096
+  insertions-few =
+      let i = R .resting .rest .insertions-count in
+      omega (arith, sum-mono n (λ v. known (mark (h .search) v)) (λ v. 1) (λ v _. known-low (mark (h .search) v)), sum-ones n, X .admissible .few-nodes)
+
+  pub shifts-few : s .tally .shifts ≤ 90112
+  shifts-few =
+      let b : h .search .insertions * X .shape .buckets ≤ h .search .insertions * 22 = mul-le-mul-left (h .search .insertions) (omega (arith, X .agrees .buckets, X .agrees .sized .few)) in
+      omega (arith, R .stands .shifts, R .resting .counted .shifts, insertions-few)
+
+  pub looks-few : s .tally .looks ≤ 352256
+  looks-few =
+      let r : length (h .search .roster) ≤ 4096 = omega (arith, R .stands .reached, reached-low, nodes-few) in
+      let b : length (h .search .roster) * (X .shape .buckets + X .segment-looks) ≤ length (h .search .roster) * 86 =
+      mul-le-mul-left (length (h .search .roster)) (omega (arith, X .agrees .buckets, X .agrees .sized .few, X .few-looks)) in
+      omega (arith, R .stands .looks, R .resting .counted .looks)

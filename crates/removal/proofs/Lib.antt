@@ -1,0 +1,5 @@
+pub mod Finding
+pub mod Moving
+pub mod Counts
+pub mod Current
+pub mod Listed

@@ -1,0 +1,263 @@
+-- A removal of the least node of the lowest slot, where no node is at the current key.
+use Prim.Native.Nat.{ℕ, suc, _+_, _-_, _*_, _≤_, _<_}
+use native.Mathlib.Omega.{arith}
+use mathlib.Core.Path.{_≡_, refl, sym, _∙_, ap, subst}
+use mathlib.Core.Bool.{cond}
+use mathlib.Core.Logic.{_≢_, _⊎_, inl, inr, ⊎-elim}
+use mathlib.Core.List.{List}
+use lib.Dec.{ltb}
+use lib.ListN.{length, getD, set}
+use lib.Seq.{getD-drop}
+use Rattle.theory.specs.Sums.{sumBelow}
+use Rattle.theory.specs.Heap.{Heap, bound, keyOf, boundsAfter, heapRemove}
+use Rattle.theory.proofs.Sums.{sum-at, sum-zero}
+use Rattle.theory.proofs.Search.Nearest.{Labelled, Least}
+use Rattle.theory.proofs.Cases.{same?}
+use Rattle.theory.proofs.Heap.Buckets.{Fits, late-range}
+use Rattle.theory.proofs.Heap.Shift.{seg}
+use Rattle.bounds.specs.Words.{boundsOf, segmentNumber, segmentEnd, segmentLooks, reboundWords}
+use Rattle.bounds.proofs.Words.{rebound-words-length, rebound-words-before, rebound-words-after}
+use Rattle.bounds.proofs.Agreement.{after-words-agree, end-reached}
+use Rattle.buckets.specs.Words.{places, placeWord}
+use Rattle.buckets.specs.Answer as Answer
+use Rattle.frontier.specs.Frontier.{Frontier, Placed}
+use Rattle.frontier.specs.Frontier.Laws.{bounds-kept, placed-here, placed-other}
+use Rattle.state.specs.declared.Layout.{Layout}
+use Rattle.state.specs.declared.State.{State}
+use Rattle.state.specs.Places.{isWord}
+use Rattle.state.specs.Slots.{slotOf, slotWord, keyWord, SlotFits, Enters}
+use Rattle.state.specs.Stands.{Setting, Lists, Stands}
+use Rattle.state.proofs.Slots.{word-far, slot-below}
+use Rattle.state.proofs.Find.{isWord-same, isWord-other, node, listed-word, later, key-word}
+use Rattle.state.proofs.Remove.{Removing, listed-min, listed-fit, listed-seg, moved-enters, moved-apart, listed-shifts, listed-stands}
+use Rattle.placing.specs.Placing.{Formed, lists}
+use Rattle.removal.specs.Finding.{Holds, LowestBucket, InBucketSome, LowestSegment}
+use Rattle.removal.specs.Moving.{shiftsOf, movedWord, inSlot, atCurrent, Pours, Poured}
+use Rattle.removal.specs.Removing.{Rests, Removal, Renews, renewed, looksOf}
+use Rattle.removal.proofs.Counts.{nodes-few, shifts-few}
+
+-- The numbers once the node of key x is removed with its looks, and nothing is moved yet.
+pub record Taken (x looked : ℕ) (s s₁ : State) : Type 0 where
+  pub front : s₁ .front ≡ x
+  pub current : s₁ .current ≡ 0
+  pub reached : s₁ .reached ≡ s .reached + 1
+  pub insertions : s₁ .tally .insertions ≡ s .tally .insertions
+  pub decreases : s₁ .tally .decreases ≡ s .tally .decreases
+  pub shifts : s₁ .tally .shifts ≡ s .tally .shifts
+  pub looks : s₁ .tally .looks ≡ s .tally .looks + looked
+
+module _ {layout : Layout} {sizes : List ℕ} {X : Setting layout sizes} {before : List ℕ} {h : Heap} {l : Lists} {s : State} (R : Rests X before h l s) (empty : s .current ≡ 0) where
+  abbrev n : ℕ
+  n = layout .nodes
+
+  abbrev B : ℕ
+  B = layout .buckets
+
+  abbrev K : ℕ
+  K = layout .segments
+
+  abbrev place : ℕ → ℕ
+  place w = getD (places n (l .words)) w 0
+
+  none-current : (v : ℕ) → v < n → place v ≢ 1
+  none-current v low e = omega (arith, sum-at n v (λ w. isWord 1 (place w)) low, R .stands .current, empty, ap (isWord 1) e, isWord-same 1)
+
+  pub formed : Formed layout sizes
+  formed = record { sized = X .agrees .sized; slots = X .slots }
+
+  pub listed-holds : Holds layout (l .words)
+  listed-holds =
+      let on = R .labelled in
+      record {
+        frontier = R .stands .frontier;
+        slots = X .slots;
+        two = X .agrees .sized .two;
+        few = X .agrees .sized .few;
+        node = R .node;
+        below = node X (R .stands) (R .resting .rest) (R .resting .inv) (R .node) on;
+        held = rw (listed-word X (R .stands) (R .resting .rest) (R .resting .inv) (R .node) on (later X (R .stands) (R .resting .rest) (R .resting .inv) none-current (R .node) on)) (word-far K _ _);
+      }
+
+  pub distances-long : n ≤ length (l .distances)
+  distances-long = omega (arith, ap length (R .stands .distances), R .resting .rest .distances-length, X .nodes)
+
+  pub slot-in : {j k : ℕ} → LowestSegment layout (l .words) j k → slotOf K j k < layout .slots
+  slot-in g = rw (X .slots) (slot-below (g .slot))
+
+  pub bucket-some : {j : ℕ} → LowestBucket layout (l .words) j → InBucketSome layout (l .words) j
+  bucket-some b = record { frontier = R .stands .frontier; slots = X .slots; low = b .low; high = b .high; few = X .agrees .sized .few; some = b .some }
+
+  -- The slot that is used, and its least node.
+  module _ {j k v : ℕ} (b : LowestBucket layout (l .words) j) (g : LowestSegment layout (l .words) j k) (found : Answer.Least n K (slotOf K j k) (l .words) (l .distances) v) where
+    abbrev key : ℕ
+    key = keyOf h v
+
+    abbrev slot : ℕ
+    slot = slotOf K j k
+
+    low : v < n
+    low = found .in-slot .0
+
+    min : Least (h .search) v key
+    min = listed-min X (R .stands) (R .resting .rest) (R .resting .inv) (R .long) none-current (g .slot) (b .lower) (g .earlier) found
+
+    fit : Fits (X .shape) (h .bounds) j key
+    fit = listed-fit X (R .stands) (R .resting .rest) (R .resting .inv) (R .long) none-current (g .slot) (b .lower) (g .earlier) found
+
+    segment-is : k ≡ seg (X .shape) (h .bounds) j key
+    segment-is = listed-seg X (R .stands) (R .resting .rest) (R .resting .inv) (R .long) none-current (g .slot) (b .lower) (g .earlier) found
+
+    key-of : (w : ℕ) → w < n → getD (l .distances) w 0 ≡ keyOf h w
+    key-of = key-word X (R .stands) (R .resting .rest) (R .resting .inv) none-current
+
+    pub held : 512 ≤ place v
+    held = rw (found .in-slot .1) (word-far K j k)
+
+    after-front : s .front < key
+    after-front =
+        let q = later X (R .stands) (R .resting .rest) (R .resting .inv) none-current v (min .member) in
+        omega (arith, R .resting .rest .ahead v (min .member), q)
+
+    -- v has left its slot.
+    module _ {w₁ : List ℕ} (P : Placed n (layout .slots) K (l .words) w₁ v 2) where
+      bound-same : (i : ℕ) → 1 ≤ i → i ≤ B → getD w₁ (4 * n + i) 0 ≡ bound (h .bounds) i
+      bound-same i lo hi = P .bounds i (omega (arith, X .agrees .sized .few)) ∙ R .stands .bounds i lo hi
+
+      end-is : segmentEnd B K sizes j (getD w₁ (4 * n + j) 0) k ≡ segmentEnd B K sizes j (bound (h .bounds) j) k
+      end-is = ap (λ (u : ℕ). segmentEnd B K sizes j u k) (bound-same j (b .low) (b .high))
+
+      words-long : 4 * n + 32 ≤ length w₁
+      words-long = omega (arith, P .frontier .linked .fits .long)
+
+      pub renews : Renews layout sizes w₁ j k (getD (l .distances) v 0)
+      renews = record {
+        formed = formed;
+        long = words-long;
+        low = b .low;
+        high = b .high;
+        segment = g .slot .high;
+        positive = rw (key-of v low) (omega (arith, after-front));
+        end = rw (key-of v low, end-is) reaches;
+      }
+        where
+          reaches : key ≤ segmentEnd B K sizes j (bound (h .bounds) j) k
+          reaches =
+              let e : segmentNumber B K sizes j (bound (h .bounds) j) key ≡ k = sym (segment-is ∙ X .agrees .segment j (bound (h .bounds) j) key) in
+              rw e at (end-reached (X .agrees) (X .lawful) j (bound (h .bounds) j) key (fit .low) (fit .under)
+              (λ less. late-range (R .resting .inv .bounds) fit (omega (arith, after-front)) (omega (arith, X .agrees .buckets))))
+
+      -- The bounds are set anew.
+      abbrev w₂ : List ℕ
+      w₂ = renewed layout sizes w₁ j k (getD (l .distances) v 0)
+
+      words-kept : (i : ℕ) → (i < 4 * n) ⊎ (4 * n + 24 ≤ i) → getD w₂ i 0 ≡ getD w₁ i 0
+      words-kept i = ⊎-elim
+          (λ q. rebound-words-before n sizes _ _ 1 j w₁ (omega (arith, words-long)) i (omega arith))
+          (λ q. rebound-words-after n sizes _ _ 1 j w₁ (omega (arith, words-long)) i (b .low) (omega (arith, b .high, X .agrees .sized .few)))
+
+      renewed-frontier : Frontier n (layout .slots) K w₂ × (places n w₂ ≡ places n w₁)
+      renewed-frontier = bounds-kept (P .frontier) (rebound-words-length n sizes _ _ 1 j w₁ (omega (arith, words-long))) words-kept
+
+      here : getD (places n w₂) v 0 ≡ 2
+      here = ap (λ (p : List ℕ). getD p v 0) (renewed-frontier .1) ∙ placed-here (R .stands .frontier) P low
+
+      other : (w : ℕ) → w ≢ v → getD (places n w₂) w 0 ≡ place w
+      other w q = ap (λ (p : List ℕ). getD p w 0) (renewed-frontier .1) ∙ placed-other (R .stands .frontier) P w q
+
+      -- A node that still has the slot's word is another one than v.
+      left : (w : ℕ) → getD (places n w₂) w 0 ≡ placeWord K slot → (w ≢ v) × (place w ≡ slotWord K j k)
+      left w e =
+          let q : w ≢ v = λ z. omega (arith, word-far K j k, sym e ∙ ap (λ (i : ℕ). getD (places n w₂) i 0) z ∙ here) in
+          (q, sym (other w q) ∙ e)
+
+      abbrev u : List ℕ
+      u = boundsOf n w₂
+
+      abbrev after : List ℕ
+      after = boundsAfter (X .shape) j (seg (X .shape) (h .bounds) j key) key (h .bounds)
+
+      bounds-are : (i : ℕ) → 1 ≤ i → i ≤ B → bound u i ≡ bound after i
+      bounds-are i lo hi =
+          let a = after-words-agree (X .agrees) n w₁ (omega (arith, words-long, X .agrees .sized .few)) j k key (h .bounds) (b .high) (omega (arith, R .resting .inv .bounds .long, X .agrees .buckets))
+          (λ p l m. getD-drop (4 * n) w₁ p 0 ∙ bound-same p l m) i lo hi in
+          ap (λ (x : ℕ). bound (boundsOf n (renewed layout sizes w₁ j k x)) i) (key-of v low)
+          ∙ ap (λ (e : ℕ). bound (boundsOf n (reboundWords n sizes e (key - 1) 1 j w₁)) i) end-is
+          ∙ a ∙ ap (λ (m : ℕ). bound (boundsAfter (X .shape) j m key (h .bounds)) i) segment-is
+
+      none-left : (w : ℕ) → w < n → isWord 1 (getD (places n w₂) w 0) ≡ 0
+      none-left w lo = isWord-other 1 (getD (places n w₂) w 0) (⊎-elim
+          (λ e. λ z. omega (arith, sym z ∙ ap (λ (i : ℕ). getD (places n w₂) i 0) e ∙ here))
+          (λ q. rw (other w q) (none-current w lo))
+          (same? w v))
+
+      -- The others of the slot can be moved.
+      module _ {s₁ : State} (taken : Taken (getD (l .distances) v 0) (looksOf K j k) s s₁) where
+        front-is : s₁ .front ≡ key
+        front-is = taken .front ∙ key-of v low
+
+        pours : Pours layout sizes w₂ (l .distances) s₁ j slot
+        pours = record {
+          formed = formed;
+          frontier = renewed-frontier .0;
+          below = slot-in g;
+          long = distances-long;
+          enters = λ w lo e. let q = left w e in
+              rw (front-is, key-of w lo)
+              (moved-enters X (R .stands) (R .resting .rest) (R .resting .inv) (R .long) none-current (g .slot) (b .lower) (g .earlier) found u bounds-are w lo (q .0) (q .1));
+          apart = λ w lo e. let q = left w e in
+              rw (front-is, key-of w lo)
+              (moved-apart X (R .stands) (R .resting .rest) (R .resting .inv) (R .long) none-current (g .slot) (b .lower) (g .earlier) found u bounds-are w lo (q .0) (q .1));
+          current = taken .current ∙ sym (sum-zero n (λ w. isWord 1 (getD (places n w₂) w 0)) none-left);
+          shifts-few = omega (arith, taken .shifts, shifts-few R, nodes-few R);
+        }
+
+        -- They have moved.
+        module _ {w₃ : List ℕ} {s′ : State} (D : Poured layout sizes w₂ w₃ (l .distances) s₁ s′ j slot) where
+          abbrev h′ : Heap
+          h′ = heapRemove (X .shape) j (seg (X .shape) (h .bounds) j key) key v h
+
+          moved-is : (w : ℕ) → w < n → w ≢ v → place w ≡ slotWord K j k → getD (places n w₃) w 0 ≡ keyWord B K sizes u key (keyOf h w) j
+          moved-is w lo q e = rw (← front-is, ← (key-of w lo)) (D .moved w lo (other w q ∙ e))
+
+          kept-is : (w : ℕ) → w < n → w ≢ v → place w ≢ slotWord K j k → getD (places n w₃) w 0 ≡ place w
+          kept-is w lo q e = D .kept w lo (λ z. e (sym (other w q) ∙ z)) ∙ other w q
+
+          here-is : getD (places n w₃) v 0 ≡ 2
+          here-is = D .kept v low (λ z. omega (arith, word-far K j k, here, z)) ∙ here
+
+          bounds-left : (i : ℕ) → 1 ≤ i → i ≤ B → getD w₃ (4 * n + i) 0 ≡ bound after i
+          bounds-left i lo hi = D .bounds i (omega (arith, X .agrees .sized .few)) ∙ sym (getD-drop (4 * n) w₂ i 0) ∙ bounds-are i lo hi
+
+          shifted : h′ .shifts ≡ h .shifts + shiftsOf j (inSlot layout w₂ slot)
+          shifted = listed-shifts X (R .stands) (R .resting .rest) (R .resting .inv) (R .long) none-current (g .slot) (b .lower) (g .earlier) found
+              (λ w. getD (places n w₂) w 0) here (λ w lo q. other w q)
+
+          removing : Removing key (h′ .shifts - h .shifts) (looksOf K j k) s s′
+          removing = record {
+            front = D .front ∙ front-is;
+            reached = D .reached ∙ taken .reached;
+            insertions = D .insertions ∙ taken .insertions;
+            decreases = D .decreases ∙ taken .decreases;
+            shifts = omega (arith, D .shifts, taken .shifts, shifted);
+            looks = D .looks ∙ taken .looks;
+          }
+
+          listed-removal : Removal X before h (lists w₃ (l .distances) (l .parents) (set (l .roster) (s .reached) v)) s′ v
+          listed-removal = record {
+            bucket = j;
+            fit = rw (D .front, front-is) fit;
+            least = rw (D .front, front-is) min;
+            stands = subst (λ (d : ℕ). Stands layout (X .shape) before (heapRemove (X .shape) j (seg (X .shape) (h .bounds) j d) d v h) (lists w₃ (l .distances) (l .parents) (set (l .roster) (s .reached) v)) s′)
+                (sym (D .front ∙ front-is))
+                (listed-stands X (R .stands) (R .resting .rest) (R .resting .inv) (R .long) none-current (g .slot) (b .lower) (g .earlier) found
+                u (D .frontier) here-is bounds-are bounds-left moved-is kept-is (looksOf K j k) refl removing (omega (arith, shifted)) (D .current));
+          }
+
+      -- The same of words that are known to be those.
+      module _ {w : List ℕ} (e : w ≡ w₂) {s₁ : State} (taken : Taken (getD (l .distances) v 0) (looksOf K j k) s s₁) where
+        pub words-pour : Pours layout sizes w (l .distances) s₁ j slot
+        words-pour = rw e (pours taken)
+
+        pub words-removed : {w₃ : List ℕ} {s′ : State} → Poured layout sizes w w₃ (l .distances) s₁ s′ j slot
+            → Removal X before h (lists w₃ (l .distances) (l .parents) (set (l .roster) (s .reached) v)) s′ v
+        words-removed D = listed-removal taken (rw e at D)

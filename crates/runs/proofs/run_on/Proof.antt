@@ -1,0 +1,49 @@
+-- `runs::run_on` meets its contract.
+use mathlib.Core.Path.{_≡_, refl, sym, _∙_}
+use lib.Seq.{length-take-le}
+use Rattle.runs.proofs.Fronts.{front-filled, lent-length, front-cleared}
+use borrow.Author.Needs.{needs}
+use Rattle.runs.proofs.run_on.Statement.{statement}
+use Rattle.runs.proofs.run_on.Tie as tie
+
+slice-aggregate-run : tie.Need-slice-aggregate-run
+slice-aggregate-run c = sym (length-take-le _ _ (c .before .before .before .before .before .before .before .before .before .pre .runs-on .work-fit))
+
+slice-aggregate-fill : tie.Need-slice-aggregate-fill
+slice-aggregate-fill c = lent-length (c .before .before .before .before .before .before .before .before .before .run .last .0) _ _ (c .before .before .before .before .before .before .before .before .before .before .before .before .before .before .before .before .before .before .before .before .before .before .pre .runs-on .work-fit) (c .before .before .before .before .before .before .before .before .before .run .kept .0)
+
+returns : tie.Need-returns
+returns c X R =
+    let run = c .before .before .before .before .before .before .before .before .before .before .before .before .run in
+    let stands = run .ensures X (R .runs) in
+    record {
+      distances = front-filled (run .last .1 .0) _ _ _ (stands .distances) (run .kept .1 .0 ∙ length-take-le _ _ (R .distances-fit));
+      parents = front-filled (run .last .1 .1 .0) _ _ _ (stands .parents) (run .kept .1 .1 .0 ∙ length-take-le _ _ (R .parents-fit));
+      roster = stands .roster;
+      work = front-cleared (run .last .0) _ _ (R .work-fit) (run .kept .0) (c .before .before .fill .last .0) (c .before .before .fill .ensures);
+      reached = stands .reached;
+      insertions = stands .insertions;
+      decreases = stands .decreases;
+      shifts = stands .shifts;
+      looks = stands .looks;
+    }
+
+pub run-on-spec : {M : Type 1} → statement M
+run-on-spec =
+    tie.close
+    (tie.spec
+    (λ c. search needs)
+    slice-aggregate-run
+    (λ c. search needs)
+    (λ c. search needs)
+    (λ c. search needs)
+    (λ c. search needs)
+    (λ c κs. search needs)
+    (λ c. search needs)
+    slice-aggregate-fill
+    (λ c κs. search needs)
+    (λ c. search needs)
+    (λ c. search needs)
+    (λ c. search needs)
+    (λ c. search needs)
+    returns)

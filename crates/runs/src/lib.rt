@@ -1,0 +1,263 @@
+// The two runs that callers use: each makes its own checks, plans with the shared core, and leaves its work words at 0 (document 01,
+// "What the planner holds and leaves out" and "What a call returns").
+use state::Layout;
+use state::State;
+use types::Check;
+use types::Node;
+use types::RunAnswer;
+ghost use mathlib.Core.Path.{_≡_};
+ghost use Prim.Native.Nat.{_+_, _*_, _≤_, _<_};
+ghost use Rattle.types.specs.declared.Check.the-variants.{Passed};
+ghost use Rattle.types.specs.Answers.{numbersOf, acceptedNumbers};
+ghost use Rattle.theory.specs.Maps.{mapOf};
+ghost use Rattle.theory.specs.Heap.{heap};
+ghost use Rattle.state.specs.Stands.{Setting};
+ghost use Rattle.checks.specs.Checks.{oneLevelWork, twoLevelWork};
+ghost use Rattle.runs.specs.Promise.{OneLevelRan, TwoLevelRan, OneLevelPromised, TwoLevelPromised, lent};
+ghost use Rattle.runs.specs.Parts.{Ready, RunsOn, SomeRunsOn, Ended};
+
+// The numbers of an accepted run.
+fn answer(state: State, buckets: u32) -> RunAnswer
+    requires { ⌜ state .tally .insertions + state .tally .decreases + state .tally .shifts < 4294967296 ⌝ }
+    ensures { λ r. ⌜ numbersOf r ≡ acceptedNumbers (state .reached) buckets (state .tally .decreases)
+        (state .tally .insertions + state .tally .decreases + state .tally .shifts) (state .tally .looks) ⌝ }
+{
+    let tally = state.tally;
+    types::accepted_run(
+        state.reached,
+        buckets,
+        tally.decreases,
+        tally.insertions + tally.decreases + tally.shifts,
+        tally.looks,
+    )
+}
+
+// The core on exactly the words that a run fills of each list; the work words are cleared behind it.
+fn run_on(
+    starts: &[u32],
+    heads: &[u32],
+    costs: &[u32],
+    distances: &mut [u32],
+    parents: &mut [u32],
+    roster: &mut [u32],
+    work: &mut [u32],
+    sizes: &[u32],
+    layout: Layout,
+    top: u32,
+    source: Node,
+    needed: usize,
+) -> State
+    requires { ⌜ SomeRunsOn layout (now sizes) (now starts) (now heads) (now costs) (source .0) top needed
+        (lent (now distances) (now parents) (now roster) (now work)) ⌝ }
+    ensures { λ r. ⌜ ((X : Setting layout (now (sizes .entry)))
+        → RunsOn X (mapOf (layout .nodes) (now (starts .entry)) (now (heads .entry)) (now (costs .entry))) (source .0) top needed
+        (lent (now (distances .entry)) (now (parents .entry)) (now (roster .entry)) (now (work .entry)))
+        → Ended (heap (X .network) (X .shape)) needed
+        (lent (now (distances .entry)) (now (parents .entry)) (now (roster .entry)) (now (work .entry)))
+        (lent (now (distances .exit)) (now (parents .exit)) (now (roster .exit)) (now (work .exit))) r) ⌝ }
+{
+    let n = layout.nodes;
+    let state = search::run(
+        &mut work[..needed],
+        &mut distances[..n],
+        &mut parents[..n],
+        roster,
+        sizes,
+        starts,
+        heads,
+        costs,
+        layout,
+        top,
+        source,
+    );
+    search::fill(&mut work[..needed], 0);
+    state
+}
+
+// The one-level run of a map and lists that have passed the checks.
+fn one_level_steps(
+    n: u32,
+    ceiling: u32,
+    source: Node,
+    starts: &[u32],
+    heads: &[u32],
+    costs: &[u32],
+    distances: &mut [u32],
+    parents: &mut [u32],
+    roster: &mut [u32],
+    work: &mut [u32],
+) -> RunAnswer
+    requires { ⌜ Ready (mapOf n (now starts) (now heads) (now costs)) ceiling (source .0) (oneLevelWork n) (lent (now distances) (now parents) (now roster) (now work)) ⌝ }
+    ensures { λ r. ⌜ OneLevelRan Passed n ceiling (source .0) (now (starts .entry)) (now (heads .entry)) (now (costs .entry)) r
+        (lent (now (distances .entry)) (now (parents .entry)) (now (roster .entry)) (now (work .entry)))
+        (lent (now (distances .exit)) (now (parents .exit)) (now (roster .exit)) (now (work .exit))) ⌝ }
+{
+    let buckets = bounds::one_level_buckets(ceiling);
+    let sizes = bounds::one_level_sizes();
+    let layout = Layout {
+        nodes: n as usize,
+        buckets: buckets as usize,
+        segments: 1,
+        slots: buckets as usize,
+    };
+    let top = n * ceiling + 1;
+    let needed = 4 * n as usize + 64;
+    let state = run_on(
+        starts,
+        heads,
+        costs,
+        distances,
+        parents,
+        roster,
+        work,
+        &sizes,
+        layout,
+        top,
+        source,
+        needed,
+    );
+    answer(state, buckets)
+}
+
+// The one-level run.
+pub fn one_level(
+    n: u32,
+    ceiling: u32,
+    source: Node,
+    starts: &[u32],
+    heads: &[u32],
+    costs: &[u32],
+    distances: &mut [u32],
+    parents: &mut [u32],
+    roster: &mut [u32],
+    work: &mut [u32],
+) -> RunAnswer
+    ensures { λ r. ⌜ OneLevelPromised n ceiling (source .0) (now (starts .entry)) (now (heads .entry)) (now (costs .entry)) r
+        (lent (now (distances .entry)) (now (parents .entry)) (now (roster .entry)) (now (work .entry)))
+        (lent (now (distances .exit)) (now (parents .exit)) (now (roster .exit)) (now (work .exit))) ⌝ }
+{
+    let check = checks::one_level_check(
+        n,
+        ceiling,
+        source,
+        starts,
+        heads,
+        costs,
+        distances.len(),
+        parents.len(),
+        roster.len(),
+        work.len(),
+    );
+    if let Check::Fault { number, place } = check {
+        return types::refused_run(number, place);
+    }
+    one_level_steps(
+        n,
+        ceiling,
+        source,
+        starts,
+        heads,
+        costs,
+        distances,
+        parents,
+        roster,
+        work,
+    )
+}
+
+// The two-level run of a map and lists that have passed the checks.
+fn two_level_steps(
+    n: u32,
+    ceiling: u32,
+    source: Node,
+    segments: u32,
+    starts: &[u32],
+    heads: &[u32],
+    costs: &[u32],
+    distances: &mut [u32],
+    parents: &mut [u32],
+    roster: &mut [u32],
+    work: &mut [u32],
+) -> RunAnswer
+    requires { ⌜ Ready (mapOf n (now starts) (now heads) (now costs)) ceiling (source .0) (twoLevelWork n) (lent (now distances) (now parents) (now roster) (now work)) ⌝ }
+    requires { ⌜ (2 ≤ segments) × (segments ≤ 64) ⌝ }
+    ensures { λ r. ⌜ TwoLevelRan Passed n ceiling (source .0) segments (now (starts .entry)) (now (heads .entry)) (now (costs .entry)) r
+        (lent (now (distances .entry)) (now (parents .entry)) (now (roster .entry)) (now (work .entry)))
+        (lent (now (distances .exit)) (now (parents .exit)) (now (roster .exit)) (now (work .exit))) ⌝ }
+{
+    let buckets = bounds::two_level_buckets(ceiling, segments);
+    let sizes = bounds::two_level_sizes(segments);
+    let slots = (buckets - 1) * segments + 1;
+    let layout = Layout {
+        nodes: n as usize,
+        buckets: buckets as usize,
+        segments: segments as usize,
+        slots: slots as usize,
+    };
+    let top = n * ceiling + 1;
+    let needed = 4 * n as usize + 384;
+    let state = run_on(
+        starts,
+        heads,
+        costs,
+        distances,
+        parents,
+        roster,
+        work,
+        &sizes,
+        layout,
+        top,
+        source,
+        needed,
+    );
+    answer(state, buckets)
+}
+
+// The two-level run.
+pub fn two_level(
+    n: u32,
+    ceiling: u32,
+    source: Node,
+    segments: u32,
+    starts: &[u32],
+    heads: &[u32],
+    costs: &[u32],
+    distances: &mut [u32],
+    parents: &mut [u32],
+    roster: &mut [u32],
+    work: &mut [u32],
+) -> RunAnswer
+    ensures { λ r. ⌜ TwoLevelPromised n ceiling (source .0) segments (now (starts .entry)) (now (heads .entry)) (now (costs .entry)) r
+        (lent (now (distances .entry)) (now (parents .entry)) (now (roster .entry)) (now (work .entry)))
+        (lent (now (distances .exit)) (now (parents .exit)) (now (roster .exit)) (now (work .exit))) ⌝ }
+{
+    let check = checks::two_level_check(
+        n,
+        ceiling,
+        source,
+        segments,
+        starts,
+        heads,
+        costs,
+        distances.len(),
+        parents.len(),
+        roster.len(),
+        work.len(),
+    );
+    if let Check::Fault { number, place } = check {
+        return types::refused_run(number, place);
+    }
+    two_level_steps(
+        n,
+        ceiling,
+        source,
+        segments,
+        starts,
+        heads,
+        costs,
+        distances,
+        parents,
+        roster,
+        work,
+    )
+}

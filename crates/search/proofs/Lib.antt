@@ -1,0 +1,4 @@
+pub mod Filling
+pub mod Arcs
+pub mod Blank
+pub mod Stepping

@@ -1,0 +1,5 @@
+pub mod Places
+pub mod Slots
+pub mod Label
+pub mod Find
+pub mod Remove

@@ -1,0 +1,89 @@
+-- The numbering of segments: each has a slot of its own, whose place word tells the bucket.
+use Prim.Native.Nat.{ℕ, suc, _+_, _-_, _*_, _/_, _≤_, _<_}
+use native.Mathlib.Omega.{arith}
+use native.Mathlib.Nat.{mul-le-mul-right}
+use mathlib.Core.Path.{_≡_, refl, sym, _∙_, ap, subst}
+use mathlib.Core.Bool.{Bool, true, false}
+use mathlib.Core.Logic.{_≢_, inl, inr, ⊎-elim}
+use mathlib.Core.List.{List}
+use lib.Arith.{digits-div}
+use borrow.Author.Tests.{eq-eqb, ne-eqb}
+use Rattle.theory.specs.Network.{Network}
+use Rattle.theory.specs.Shape.{Shape}
+use Rattle.theory.specs.Heap.{bound, bucketFrom}
+use Rattle.theory.proofs.Cases.{split, same?}
+use Rattle.theory.proofs.Heap.Laws.{Lawful}
+use Rattle.theory.proofs.Heap.Bounds.{Bounds}
+use Rattle.theory.proofs.Heap.Buckets.{Fits, late-range}
+use Rattle.bounds.specs.Words.{segmented, segmentNumber, Agrees}
+use Rattle.bounds.proofs.Segments.{segmented-below, number-whole, number-most}
+use Rattle.bounds.proofs.Bucket.{bucketFrom-same}
+use Rattle.buckets.specs.Words.{bucketOf, placeWord}
+use Rattle.state.specs.Slots.{slotOf, slotWord, keyWord, SlotFits, Enters}
+
+pub word-far : (K b k : ℕ) → 512 ≤ slotWord K b k
+word-far K b k = omega arith
+
+module _ {B K b k : ℕ} (f : SlotFits B K b k) where
+  pub slot-bucket : bucketOf K (slotOf K b k) ≡ b
+  slot-bucket =
+      let e : ((b - 1) * K + (k - 1)) / K ≡ b - 1 = digits-div (b - 1) (omega (arith, f .low, f .high)) in
+      omega (arith, f .first)
+
+  pub slot-below : slotOf K b k < (B - 1) * K + 1
+  slot-below = elim (split b B) [
+    | inl l ↦ let h : suc (b - 1) * K ≤ (B - 1) * K = mul-le-mul-right K (omega (arith, f .first)) in omega (arith, f .high, f .low)
+    | inr l ↦ let e : b ≡ B = omega (arith, f .last) in let o = f .whole e in rw e (omega arith)
+  ]
+
+-- Two segments that fit and have one place word are one.
+module _ {B K b k c m : ℕ} (f : SlotFits B K b k) (g : SlotFits B K c m) (few : (B - 1) * K + 1 < 512) (e : slotWord K b k ≡ slotWord K c m) where
+  same-bucket : b ≡ c
+  same-bucket = omega (arith, slot-bucket f, slot-bucket g, slot-below f, slot-below g)
+
+  pub same-slot : (b ≡ c) × (k ≡ m)
+  same-slot =
+      let q = same-bucket in
+      let r : (b - 1) * K ≡ (c - 1) * K = ap (λ (i : ℕ). (i - 1) * K) q in
+      (q, omega (arith, f .low, g .low, slot-bucket f, slot-bucket g))
+
+-- A key that fits its bucket has such a segment there.
+pub key-fits : {sh : Shape} {C S last B K : ℕ} {sizes u : List ℕ} → Lawful sh C S → Agrees sh B K sizes → Bounds sh last u → {b x : ℕ} → Fits sh u b x → last ≤ x
+    → SlotFits B K b (sh .segment b (bound u b) x)
+key-fits {sh} {last = last} {B = B} {K = K} {sizes = sizes} {u = u} law agree bounds {b} {x} fit late = record {
+  first = fit .low;
+  last = omega (arith, fit .high, agree .buckets);
+  low = law .low b (bound u b) x (fit .low) (fit .under) (late-range bounds fit late);
+  high = rw (agree .segment b (bound u b) x) (number-most B K sizes b (bound u b) x (agree .some));
+  whole = λ e. agree .segment b (bound u b) x ∙ number-whole B K sizes b (bound u b) x (unsegmented e);
+}
+  where
+    unsegmented : b ≡ B → segmented B K b ≡ false
+    unsegmented e = go (segmented B K b) refl
+      where
+        go : (t : Bool) → segmented B K b ≡ t → t ≡ false
+        go true q = absurd (omega (arith, segmented-below B K b q))
+        go false q = refl
+
+-- The place of a key depends on the bounds of the buckets alone.
+module _ {B K : ℕ} {sizes u : List ℕ} {front x start : ℕ} (E : Enters B K sizes u front x start) (u′ : List ℕ) (same : (i : ℕ) → 1 ≤ i → i ≤ B → bound u i ≡ bound u′ i) where
+  same-from : bucketFrom u x start ≡ bucketFrom u′ x start
+  same-from = bucketFrom-same u u′ x start (λ i low high. same i low (omega (arith, E .within)))
+
+  same-bound : x ≢ front → bound u (bucketFrom u x start) ≡ bound u′ (bucketFrom u′ x start)
+  same-bound later = let f = E .fits later in same (bucketFrom u x start) (f .first) (f .last) ∙ ap (bound u′) same-from
+
+  pub same-word : keyWord B K sizes u front x start ≡ keyWord B K sizes u′ front x start
+  same-word = ⊎-elim
+      (λ e. rw (eq-eqb x front e))
+      (λ q. let c = same-bound q in rw (ne-eqb x front q) (cc (same-from, c)))
+      (same? x front)
+
+  pub same-enters : Enters B K sizes u′ front x start
+  same-enters = record {
+    within = E .within;
+    fits = λ q.
+        subst (λ (b : ℕ). SlotFits B K b (segmentNumber B K sizes b (bound u′ (bucketFrom u′ x start)) x)) same-from
+        (subst (λ (c : ℕ). SlotFits B K (bucketFrom u x start) (segmentNumber B K sizes (bucketFrom u x start) c x)) (same-bound q) (E .fits q));
+    under = λ q. rw (← (same-bound q)) (E .under q);
+  }

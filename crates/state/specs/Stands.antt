@@ -1,0 +1,54 @@
+-- The setting of a run, and what its words stand for.
+use Prim.Native.Nat.{ℕ, _+_, _-_, _*_, _≤_, _<_}
+use mathlib.Core.Path.{_≡_}
+use mathlib.Core.List.{List, _++_}
+use lib.ListN.{length, getD, drop}
+use Rattle.theory.specs.Sums.{sumBelow}
+use Rattle.theory.specs.Network.{Network, Admissible}
+use Rattle.theory.specs.Shape.{Shape}
+use Rattle.theory.specs.Heap.{Heap, bound}
+use Rattle.theory.proofs.Heap.Laws.{Lawful}
+use Rattle.bounds.specs.Words.{Agrees}
+use Rattle.buckets.specs.Words
+use Rattle.frontier.specs.Frontier.{Frontier}
+use Rattle.state.specs.declared.Layout.{Layout}
+use Rattle.state.specs.declared.State.{State}
+use Rattle.state.specs.Places.{placeOf, isWord}
+use Rattle.state.specs.Slots.{slotWord}
+
+-- A network and a shape that the numbers of a run stand for.
+pub record Setting (layout : Layout) (sizes : List ℕ) : Type 0 where
+  pub network : Network
+  pub shape : Shape
+  pub ceiling : ℕ
+  pub segment-looks : ℕ
+  pub few-looks : segment-looks ≤ 64
+  pub arcs : ℕ
+  pub admissible : Admissible network ceiling arcs
+  pub lawful : Lawful shape ceiling segment-looks
+  pub room : network .nodes * ceiling ≤ shape .top
+  pub agrees : Agrees shape (layout .buckets) (layout .segments) sizes
+  pub nodes : network .nodes ≡ layout .nodes
+  pub slots : layout .slots ≡ (layout .buckets - 1) * layout .segments + 1
+
+-- The lists that a run works on.
+pub record Lists : Type 0 where
+  pub words : List ℕ
+  pub distances : List ℕ
+  pub parents : List ℕ
+  pub roster : List ℕ
+
+-- The lists and numbers stand for the heap h; `before` is what the roster held at the run's start.
+pub record Stands (layout : Layout) (shape : Shape) (before : List ℕ) (h : Heap) (l : Lists) (s : State) : Type 0 where
+  pub frontier : Frontier (layout .nodes) (layout .slots) (layout .segments) (l .words)
+  pub places : (v : ℕ) → v < layout .nodes → getD (Words.places (layout .nodes) (l .words)) v 0 ≡ placeOf (slotWord (layout .segments)) shape (s .front) h v
+  pub bounds : (i : ℕ) → 1 ≤ i → i ≤ layout .buckets → getD (l .words) (4 * layout .nodes + i) 0 ≡ bound (h .bounds) i
+  pub distances : l .distances ≡ h .search .distances
+  pub parents : l .parents ≡ h .search .parents
+  pub roster : l .roster ≡ h .search .roster ++ drop (length (h .search .roster)) before
+  pub current : s .current ≡ sumBelow (layout .nodes) (λ v. isWord 1 (getD (Words.places (layout .nodes) (l .words)) v 0))
+  pub reached : s .reached ≡ length (h .search .roster)
+  pub insertions : s .tally .insertions ≡ h .search .insertions
+  pub decreases : s .tally .decreases ≡ h .search .decreases
+  pub shifts : s .tally .shifts ≡ h .shifts
+  pub looks : s .tally .looks ≡ h .looks

@@ -1,0 +1,77 @@
+// The numbers of a run: how its work words are laid out, its tallies, and what changes from step to step.
+ghost use mathlib.Core.Path.{_≡_};
+ghost use Prim.Native.Nat.{_<_, _+_};
+
+// n, B, the segments of a bucket below the last (1 for one level), and the segments of all buckets.
+pub struct Layout {
+    pub nodes: usize,
+    pub buckets: usize,
+    pub segments: usize,
+    pub slots: usize,
+}
+
+// The four counts of a run (document 01, "The tallies").
+pub struct Tally {
+    pub insertions: u32,
+    pub decreases: u32,
+    pub shifts: u32,
+    pub looks: u32,
+}
+
+// The distance scanned last, how many labelled nodes have it, how many nodes are scanned, and the tallies.
+pub struct State {
+    pub front: u32,
+    pub current: u32,
+    pub reached: u32,
+    pub tally: Tally,
+}
+
+impl Tally {
+    pub fn inserted(self) -> Tally
+        requires { ⌜ self .insertions < 4294967295 ⌝ }
+        ensures { λ r. ⌜ (r .insertions ≡ self .insertions + 1) × (r .decreases ≡ self .decreases) × (r .shifts ≡ self .shifts) × (r .looks ≡ self .looks) ⌝ }
+    {
+        Tally {
+            insertions: self.insertions + 1,
+            decreases: self.decreases,
+            shifts: self.shifts,
+            looks: self.looks,
+        }
+    }
+
+    pub fn decreased(self) -> Tally
+        requires { ⌜ self .decreases < 4294967295 ⌝ }
+        ensures { λ r. ⌜ (r .insertions ≡ self .insertions) × (r .decreases ≡ self .decreases + 1) × (r .shifts ≡ self .shifts) × (r .looks ≡ self .looks) ⌝ }
+    {
+        Tally {
+            insertions: self.insertions,
+            decreases: self.decreases + 1,
+            shifts: self.shifts,
+            looks: self.looks,
+        }
+    }
+
+    pub fn shifted(self) -> Tally
+        requires { ⌜ self .shifts < 4294967295 ⌝ }
+        ensures { λ r. ⌜ (r .insertions ≡ self .insertions) × (r .decreases ≡ self .decreases) × (r .shifts ≡ self .shifts + 1) × (r .looks ≡ self .looks) ⌝ }
+    {
+        Tally {
+            insertions: self.insertions,
+            decreases: self.decreases,
+            shifts: self.shifts + 1,
+            looks: self.looks,
+        }
+    }
+
+    pub fn looked(self, looks: u32) -> Tally
+        requires { ⌜ self .looks + looks < 4294967296 ⌝ }
+        ensures { λ r. ⌜ (r .insertions ≡ self .insertions) × (r .decreases ≡ self .decreases) × (r .shifts ≡ self .shifts) × (r .looks ≡ self .looks + looks) ⌝ }
+    {
+        Tally {
+            insertions: self.insertions,
+            decreases: self.decreases,
+            shifts: self.shifts,
+            looks: self.looks + looks,
+        }
+    }
+}
