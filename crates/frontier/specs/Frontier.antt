@@ -19,14 +19,14 @@ pub record Frontier (n slots segments : ℕ) (w : List ℕ) : Type 0 where
   current : (v : ℕ) → v < n → getD (places n w) v 0 ≡ 1 → In 32 n (3 * n) w v
   only : (v : ℕ) → In 32 n (3 * n) w v → getD (places n w) v 0 ≡ 1
 
--- The place word of v is now x, and every other place word and all bounds are as they were.
+-- The place word of v is now x, and every other place word and all bounds are as they were (document 01, "The search").
 pub record Placed (n slots segments : ℕ) (w w′ : List ℕ) (v x : ℕ) : Type 0 where
   pub frontier : Frontier n slots segments w′
   pub place : places n w′ ≡ set (places n w) v x
   pub same-length : length w′ ≡ length w
   pub bounds : (i : ℕ) → i < 24 → getD w′ (4 * n + i) 0 ≡ getD w (4 * n + i) 0
 
--- Some node stands at the current key.
+-- Some node stands at the current key (document 01, "The search").
 pub record Current (n : ℕ) (w : List ℕ) : Type 0 where
   pub node : ℕ
   pub below : node < n

@@ -17,12 +17,12 @@ use Rattle.state.specs.Places.{isWord}
 use Rattle.state.specs.Slots.{keyWord, Enters}
 use Rattle.state.specs.Stands.{Setting, Lists, Stands}
 
--- A layout whose numbers are those of a heap with these sizes.
+-- A layout whose numbers are those of a heap with these sizes (document 01, "Two-level heap").
 pub record Formed (layout : Layout) (sizes : List ℕ) : Type 0 where
   pub sized : Sized (layout .buckets) sizes
   pub slots : layout .slots ≡ (layout .buckets - 1) * layout .segments + 1
 
--- Node v is unlabelled in the words, and the place of its key is one that there is.
+-- Node v is unlabelled in the words, and the place of its key is one that there is (document 01, "One-level heap").
 pub record Entering (layout : Layout) (sizes words : List ℕ) (front v key start : ℕ) : Type 0 where
   pub formed : Formed layout sizes
   pub frontier : Frontier (layout .nodes) (layout .slots) (layout .segments) words
@@ -30,19 +30,20 @@ pub record Entering (layout : Layout) (sizes words : List ℕ) (front v key star
   pub unlabelled : getD (places (layout .nodes) words) v 0 ≡ 0
   pub enters : Enters (layout .buckets) (layout .segments) sizes (boundsOf (layout .nodes) words) front key start
 
--- Its place word is that of its key; 1 is counted where it is the current one.
+-- Its place word is that of its key; 1 is counted where it is the current one (document 01, "One-level heap").
 pub record Entered (layout : Layout) (sizes words words′ : List ℕ) (front v key start r : ℕ) : Type 0 where
   pub placed : Placed (layout .nodes) (layout .slots) (layout .segments) words words′ v (keyWord (layout .buckets) (layout .segments) sizes (boundsOf (layout .nodes) words) front key start)
   pub counted : r ≡ isWord 1 (keyWord (layout .buckets) (layout .segments) sizes (boundsOf (layout .nodes) words) front key start)
 
--- The lists of a run, and a link, from their parts.
+-- The lists of a run from their parts (document 01, "What the planner holds and leaves out").
 abbrev pub lists : (words distances parents roster : List ℕ) → Lists
 lists words distances parents roster = record { words = words; distances = distances; parents = parents; roster = roster }
 
+-- A link from its parts (document 000, section 1).
 abbrev pub link : (arc head cost : ℕ) → Link
 link arc head cost = record { arc = arc; head = head; cost = cost }
 
--- The words stand for a heap in which v's key falls to x.
+-- The words stand for a heap in which v's key falls to x (document 01, "The search").
 pub record Labels {layout : Layout} {sizes : List ℕ} (X : Setting layout sizes) (before : List ℕ) (h : Heap) (l : Lists) (s : State) (v x : ℕ) : Type 0 where
   pub stands : Stands layout (X .shape) before h l s
   pub inv : HeapInv (X .network) (X .shape) (s .front) h
@@ -52,7 +53,7 @@ pub record Labels {layout : Layout} {sizes : List ℕ} (X : Setting layout sizes
   pub insertions-few : s .tally .insertions < 4294967295
   pub decreases-few : s .tally .decreases < 4294967295
 
--- Some heap is so.
+-- Some heap is so (document 01, "The search").
 pub record SomeLabels (layout : Layout) (sizes words distances parents : List ℕ) (s : State) (v x : ℕ) : Type 0 where
   pub setting : Setting layout sizes
   pub before : List ℕ
@@ -60,13 +61,13 @@ pub record SomeLabels (layout : Layout) (sizes words distances parents : List �
   pub heap : Heap
   pub labels : Labels setting before heap (lists words distances parents roster) s v x
 
--- The words stand for a heap in the scan of u, with link l next and ls after it.
+-- The words stand for a heap in the scan of u, with link l next and ls after it (document 01, "The search").
 pub record Relaxes {layout : Layout} {sizes : List ℕ} (X : Setting layout sizes) (before : List ℕ) (u : ℕ) (l : Link) (ls : List Link) (h : Heap) (lists : Lists) (s : State) : Type 0 where
   pub stands : Stands layout (X .shape) before h lists s
   pub relaxing : Relaxing (X .network) (X .shape) (X .ceiling) (X .segment-looks) u (s .front) (l ∷ ls) h
   pub member : List·Memᴰ l (X .network .out u)
 
--- Some heap is so.
+-- Some heap is so (document 01, "The search").
 pub record SomeRelaxes (layout : Layout) (sizes words distances parents : List ℕ) (s : State) (l : Link) : Type 0 where
   pub setting : Setting layout sizes
   pub before : List ℕ

@@ -9,7 +9,7 @@ use Rattle.frontier.specs.Frontier.{Frontier}
 use Rattle.state.specs.declared.Layout.{Layout}
 use Rattle.state.specs.Slots.{slotOf, SlotFits}
 
--- Some node stands in a list.
+-- Some node stands in a list (document 01, "One-level heap").
 pub record Holds (layout : Layout) (words : List ℕ) : Type 0 where
   pub frontier : Frontier (layout .nodes) (layout .slots) (layout .segments) words
   pub slots : layout .slots ≡ (layout .buckets - 1) * layout .segments + 1
@@ -26,7 +26,7 @@ pub record LowestBucket (layout : Layout) (words : List ℕ) (j : ℕ) : Type 0 
   pub some : Some (InBucket (layout .nodes) j words)
   pub lower : (b w : ℕ) → 1 ≤ b → b < j → InBucket (layout .nodes) b words w → ⊥
 
--- A bucket is not empty.
+-- A bucket is not empty (document 01, "One-level heap").
 pub record InBucketSome (layout : Layout) (words : List ℕ) (bucket : ℕ) : Type 0 where
   pub frontier : Frontier (layout .nodes) (layout .slots) (layout .segments) words
   pub slots : layout .slots ≡ (layout .buckets - 1) * layout .segments + 1

@@ -21,19 +21,19 @@ use Rattle.placing.specs.Placing.{Formed}
 abbrev pub shiftsOf : (bucket moved : ℕ) → ℕ
 shiftsOf bucket moved = cond (ltb 1 bucket) moved 0
 
--- The tally with one move from a bucket counted.
+-- The tally with one move from a bucket counted (document 01, "The tallies").
 pub record ShiftedFrom (t t′ : Tally) (bucket : ℕ) : Type 0 where
   pub insertions : t′ .insertions ≡ t .insertions
   pub decreases : t′ .decreases ≡ t .decreases
   pub shifts : t′ .shifts ≡ t .shifts + shiftsOf bucket 1
   pub looks : t′ .looks ≡ t .looks
 
--- The word that node v is given: that of its key, searched for from the bucket it leaves.
+-- The word that node v is given: that of its key, searched for from the bucket it leaves (document 01, "One-level heap").
 abbrev pub movedWord : (layout : Layout) → (sizes words distances : List ℕ) → (front bucket v : ℕ) → ℕ
 movedWord layout sizes words distances front bucket v =
     keyWord (layout .buckets) (layout .segments) sizes (boundsOf (layout .nodes) words) front (getD distances v 0) bucket
 
--- Node v stands in a list, and its key can be placed.
+-- Node v stands in a list, and its key can be placed (document 01, "One-level heap").
 pub record Moves (layout : Layout) (sizes words distances : List ℕ) (s : State) (bucket v : ℕ) : Type 0 where
   pub formed : Formed layout sizes
   pub frontier : Frontier (layout .nodes) (layout .slots) (layout .segments) words
@@ -44,7 +44,7 @@ pub record Moves (layout : Layout) (sizes words distances : List ℕ) (s : State
   pub current-few : s .current ≤ 4096
   pub shifts-few : s .tally .shifts < 4294967295
 
--- Node v has moved.
+-- Node v has moved (document 01, "One-level heap").
 pub record Moved (layout : Layout) (sizes words words′ distances : List ℕ) (s s′ : State) (bucket v : ℕ) : Type 0 where
   pub placed : Placed (layout .nodes) (layout .slots) (layout .segments) words words′ v (movedWord layout sizes words distances (s .front) bucket v)
   pub front : s′ .front ≡ s .front
@@ -52,15 +52,15 @@ pub record Moved (layout : Layout) (sizes words words′ distances : List ℕ) (
   pub reached : s′ .reached ≡ s .reached
   pub tally : ShiftedFrom (s .tally) (s′ .tally) bucket
 
--- The nodes that have the word of a slot.
+-- The nodes that have the word of a slot (document 01, "Two-level heap").
 abbrev pub inSlot : (layout : Layout) → (words : List ℕ) → (slot : ℕ) → ℕ
 inSlot layout words slot = sumBelow (layout .nodes) (λ w. isWord (placeWord (layout .segments) slot) (getD (places (layout .nodes) words) w 0))
 
--- The nodes at the current key.
+-- The nodes at the current key (document 01, "The search").
 abbrev pub atCurrent : (layout : Layout) → (words : List ℕ) → ℕ
 atCurrent layout words = sumBelow (layout .nodes) (λ w. isWord 1 (getD (places (layout .nodes) words) w 0))
 
--- Every node of a slot can be moved out of it.
+-- Every node of a slot can be moved out of it (document 01, "Two-level heap").
 pub record Pours (layout : Layout) (sizes words distances : List ℕ) (s : State) (bucket slot : ℕ) : Type 0 where
   pub formed : Formed layout sizes
   pub frontier : Frontier (layout .nodes) (layout .slots) (layout .segments) words
@@ -73,7 +73,7 @@ pub record Pours (layout : Layout) (sizes words distances : List ℕ) (s : State
   pub current : s .current ≡ atCurrent layout words
   pub shifts-few : s .tally .shifts + layout .nodes < 4294967295
 
--- Every node of the slot has moved, and no other.
+-- Every node of the slot has moved, and no other (document 01, "Two-level heap").
 pub record Poured (layout : Layout) (sizes words words′ distances : List ℕ) (s s′ : State) (bucket slot : ℕ) : Type 0 where
   pub frontier : Frontier (layout .nodes) (layout .slots) (layout .segments) words′
   pub moved : (w : ℕ) → w < layout .nodes → getD (places (layout .nodes) words) w 0 ≡ placeWord (layout .segments) slot

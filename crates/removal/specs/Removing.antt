@@ -15,7 +15,7 @@ use Rattle.bounds.specs.Words.{segmentEnd, segmentLooks, reboundWords}
 use Rattle.placing.specs.Placing.{Formed, lists}
 use Rattle.removal.specs.declared.Removed.{Removed}
 
--- The words stand for a heap between two removals, with a node labelled.
+-- The words stand for a heap between two removals, with a node labelled (document 01, "The tallies").
 pub record Rests {layout : Layout} {sizes : List ℕ} (X : Setting layout sizes) (before : List ℕ) (h : Heap) (l : Lists) (s : State) : Type 0 where
   pub stands : Stands layout (X .shape) before h l s
   pub resting : Resting (X .network) (X .shape) (X .ceiling) (X .segment-looks) (s .front) h
@@ -23,7 +23,7 @@ pub record Rests {layout : Layout} {sizes : List ℕ} (X : Setting layout sizes)
   pub node : ℕ
   pub labelled : Labelled (h .search) node
 
--- Some heap is so.
+-- Some heap is so (document 01, "The tallies").
 pub record SomeRests (layout : Layout) (sizes words distances roster : List ℕ) (s : State) : Type 0 where
   pub parents : List ℕ
   pub setting : Setting layout sizes
@@ -42,7 +42,7 @@ pub record Removal {layout : Layout} {sizes : List ℕ} (X : Setting layout size
 abbrev pub looksOf : (K j k : ℕ) → ℕ
 looksOf K j k = j + segmentLooks K k
 
--- The bounds below bucket j can be set anew for the smallest key x, of its segment k.
+-- The bounds below bucket j can be set anew for the smallest key x, of its segment k (document 01, "Two-level heap").
 pub record Renews (layout : Layout) (sizes words : List ℕ) (j k x : ℕ) : Type 0 where
   pub formed : Formed layout sizes
   pub long : 4 * layout .nodes + 32 ≤ length words
@@ -57,7 +57,7 @@ abbrev pub renewed : (layout : Layout) → (sizes words : List ℕ) → (j k x :
 renewed layout sizes words j k x =
     reboundWords (layout .nodes) sizes (segmentEnd (layout .buckets) (layout .segments) sizes j (getD words (4 * layout .nodes + j) 0) k) (x - 1) 1 j words
 
--- What a removal does to every heap that the words stand for.
+-- What a removal does to every heap that the words stand for (document 01, "The tallies").
 abbrev pub Removes : (layout : Layout) → (sizes words words′ distances roster roster′ : List ℕ) → (s : State) → Removed → Type 0
 Removes layout sizes words words′ distances roster roster′ s r =
     (X : Setting layout sizes) (before parents : List ℕ) (h : Heap) → Rests X before h (lists words distances parents roster) s

@@ -19,14 +19,15 @@ pub record Ready (M : Map) (C source needed : ℕ) (l : Lent) : Type 0 where
   pub roster-fit : M .nodes ≤ length (l .roster)
   pub work-fit : needed ≤ length (l .work)
 
--- The lent lists hold the words that a run fills, of which `needed` are work words.
+-- The lent lists hold the words that a run fills, of which `needed` are work words (document 01, "What the planner holds and
+-- leaves out").
 pub record RunsOn {layout : Layout} {sizes : List ℕ} (X : Setting layout sizes) (M : Map) (source top needed : ℕ) (l : Lent) : Type 0 where
   pub runs : Runs X M source (take needed (l .work)) (take (layout .nodes) (l .distances)) (take (layout .nodes) (l .parents)) (l .roster) top
   pub distances-fit : layout .nodes ≤ length (l .distances)
   pub parents-fit : layout .nodes ≤ length (l .parents)
   pub work-fit : needed ≤ length (l .work)
 
--- Some setting is so.
+-- Some setting is so (document 01, "What the planner holds and leaves out").
 pub record SomeRunsOn (layout : Layout) (sizes starts heads costs : List ℕ) (source top needed : ℕ) (l : Lent) : Type 0 where
   pub setting : Setting layout sizes
   pub runs-on : RunsOn setting (mapOf (layout .nodes) starts heads costs) source top needed l

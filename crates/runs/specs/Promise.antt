@@ -39,12 +39,12 @@ abbrev pub RosterAfter : Check → (M : Map) → (source : ℕ) → (h : Heap) �
 RosterAfter Passed M source h words words′ = RosterFilled M source h words words′
 RosterAfter (Fault number place) M source h words words′ = words′ ≡ words
 
--- Demands 2 and 3, of an accepted run with B buckets and at most L looks to a removal.
+-- Demands 2 and 3, of an accepted run with B buckets and at most L looks to a removal (document 01, "The tallies").
 abbrev pub RunDemanded : Check → (M : Map) → (source B L : ℕ) → (h : Heap) → Type 0
 RunDemanded Passed M source B L h = Demanded M source B L h
 RunDemanded (Fault number place) M source B L h = Unit {0}
 
--- The four lent lists.
+-- The four lent lists (document 01, "What the planner holds and leaves out").
 pub record Lent : Type 0 where
   pub distances : List ℕ
   pub parents : List ℕ
@@ -85,6 +85,6 @@ TwoLevelPromised n C source K starts heads costs r l l′ =
     TwoLevelRan (firstFault (twoLevelChecks n C source K starts heads costs (length (l .distances)) (length (l .parents)) (length (l .roster)) (length (l .work))))
     n C source K starts heads costs r l l′
 
--- The four lent lists from their parts.
+-- The four lent lists from their parts (document 01, "What the planner holds and leaves out").
 abbrev pub lent : (distances parents roster work : List ℕ) → Lent
 lent distances parents roster work = record { distances = distances; parents = parents; roster = roster; work = work }

@@ -20,7 +20,7 @@ pub record Runs {layout : Layout} {sizes : List ℕ} (X : Setting layout sizes) 
   pub starts : Starts X words distances parents top source
   pub roster-long : layout .nodes ≤ length roster
 
--- Some setting is so.
+-- Some setting is so (document 01, "The search").
 pub record SomeRuns (layout : Layout) (sizes words distances parents roster starts heads costs : List ℕ) (top source : ℕ) : Type 0 where
   pub setting : Setting layout sizes
   pub runs : Runs setting (mapOf (layout .nodes) starts heads costs) source words distances parents roster top
@@ -37,7 +37,7 @@ pub record Steps {layout : Layout} {sizes : List ℕ} (X : Setting layout sizes)
   pub enough : left + length (h .search .roster) ≡ X .network .nodes
   pub leads : heapFrom (X .network) (X .shape) left h ≡ heap (X .network) (X .shape)
 
--- Some heap is so.
+-- Some heap is so (document 01, "The tallies").
 pub record SomeSteps (layout : Layout) (sizes words distances parents roster starts heads costs : List ℕ) (s : State) : Type 0 where
   pub setting : Setting layout sizes
   pub source : ℕ

@@ -11,7 +11,7 @@ use Rattle.state.specs.declared.State.{State}
 use Rattle.state.specs.Stands.{Setting, Lists, Stands}
 use Rattle.placing.specs.Placing.{lists}
 
--- The arcs of two lists, as a map of which only they are read.
+-- The arcs of two lists, as a map of which only they are read (document 01, "What the planner holds and leaves out").
 abbrev pub arcsMap : (heads costs : List ℕ) → Map
 arcsMap heads costs = record { nodes = 0; starts = []; heads = heads; costs = costs }
 
@@ -19,7 +19,8 @@ arcsMap heads costs = record { nodes = 0; starts = []; heads = heads; costs = co
 abbrev pub linksBetween : (heads costs : List ℕ) → (first last : ℕ) → List Link
 linksBetween heads costs first last = linksFrom (arcLinks (arcsMap heads costs)) first (last - first)
 
--- The words stand for a heap in the scan of u, with the arcs from `first` up to but not including `last` left to take.
+-- The words stand for a heap in the scan of u, with the arcs from `first` up to but not including `last` left to take
+-- (document 01, "The search").
 pub record Scans {layout : Layout} {sizes : List ℕ} (X : Setting layout sizes) (before : List ℕ) (u : ℕ) (h : Heap) (l : Lists) (s : State) (heads costs : List ℕ) (first last : ℕ) : Type 0 where
   pub stands : Stands layout (X .shape) before h l s
   pub relaxing : Relaxing (X .network) (X .shape) (X .ceiling) (X .segment-looks) u (s .front) (linksBetween heads costs first last) h
@@ -29,7 +30,7 @@ pub record Scans {layout : Layout} {sizes : List ℕ} (X : Setting layout sizes)
   pub costs-long : last ≤ length costs
   pub few : last ≤ 65536
 
--- Some heap is so.
+-- Some heap is so (document 01, "The search").
 pub record SomeScans (layout : Layout) (sizes words distances parents : List ℕ) (s : State) (heads costs : List ℕ) (first last : ℕ) : Type 0 where
   pub setting : Setting layout sizes
   pub before : List ℕ

@@ -7,17 +7,17 @@ use Rattle.theory.specs.Shape.{Shape}
 use Rattle.theory.specs.Heap.{Heap, bucketOf, keyOf, segmentOf}
 
 -- The word of a node in segment k of bucket b, where `slot` numbers the segments of all buckets: 0 for unlabelled, 1 for labelled at
--- the key that was scanned last, 2 for scanned.
+-- the key that was scanned last, 2 for scanned (document 01, "Two-level heap").
 abbrev pub wordOf : (slot : ℕ → ℕ → ℕ) → (front : ℕ) → Mark → (b k key : ℕ) → ℕ
 wordOf slot front unlabelled b k key = 0
 wordOf slot front labelled b k key = cond (eqb key front) 1 (slot b k)
 wordOf slot front scanned b k key = 2
 
--- The place word of node v in a heap whose last scanned key is `front`.
+-- The place word of node v in a heap whose last scanned key is `front` (document 01, "The search").
 unfoldable pub placeOf : (slot : ℕ → ℕ → ℕ) → Shape → (front : ℕ) → Heap → ℕ → ℕ
 placeOf slot sh front h v =
     wordOf slot front (mark (h .search) v) (bucketOf h v) (segmentOf sh h v) (keyOf h v)
 
--- 1 if a place word is the one that is counted, else 0.
+-- 1 if a place word is the one that is counted, else 0 (document 01, "The search").
 abbrev pub isWord : (counted word : ℕ) → ℕ
 isWord counted word = cond (eqb word counted) 1 0

@@ -26,7 +26,8 @@ bucketWord B K sizes u b x = slotWord K b (segmentNumber B K sizes b (bound u b)
 abbrev pub keyWord : (B K : ℕ) → (sizes u : List ℕ) → (front x start : ℕ) → ℕ
 keyWord B K sizes u front x start = cond (eqb x front) 1 (bucketWord B K sizes u (bucketFrom u x start) x)
 
--- Segment k of bucket b is one of those that B buckets of K segments have, the last bucket having one.
+-- Segment k of bucket b is one of those that B buckets of K segments have, the last bucket having one (document 01, "Two-level
+-- heap").
 pub record SlotFits (B K b k : ℕ) : Type 0 where
   pub first : 1 ≤ b
   pub last : b ≤ B
@@ -34,7 +35,8 @@ pub record SlotFits (B K b k : ℕ) : Type 0 where
   pub high : k ≤ K
   pub whole : b ≡ B → k ≡ 1
 
--- A key x can be placed from bucket `start` on: it is the current one, or the segment where it belongs is one of those that there are.
+-- A key x can be placed from bucket `start` on: it is the current one, or the segment where it belongs is one of those that
+-- there are (document 01, "One-level heap").
 pub record Enters (B K : ℕ) (sizes u : List ℕ) (front x start : ℕ) : Type 0 where
   pub within : start ≤ B
   pub fits : x ≢ front → SlotFits B K (bucketFrom u x start) (segmentNumber B K sizes (bucketFrom u x start) (bound u (bucketFrom u x start)) x)

@@ -16,7 +16,7 @@ use Rattle.state.specs.declared.State.{State}
 use Rattle.state.specs.Places.{placeOf, isWord}
 use Rattle.state.specs.Slots.{slotWord}
 
--- A network and a shape that the numbers of a run stand for.
+-- A network and a shape that the numbers of a run stand for (document 01, "What the planner holds and leaves out").
 pub record Setting (layout : Layout) (sizes : List ℕ) : Type 0 where
   pub network : Network
   pub shape : Shape
@@ -31,14 +31,14 @@ pub record Setting (layout : Layout) (sizes : List ℕ) : Type 0 where
   pub nodes : network .nodes ≡ layout .nodes
   pub slots : layout .slots ≡ (layout .buckets - 1) * layout .segments + 1
 
--- The lists that a run works on.
+-- The lists that a run works on (document 01, "What the planner holds and leaves out").
 pub record Lists : Type 0 where
   pub words : List ℕ
   pub distances : List ℕ
   pub parents : List ℕ
   pub roster : List ℕ
 
--- The lists and numbers stand for the heap h; `before` is what the roster held at the run's start.
+-- The lists and numbers stand for the heap h; `before` is what the roster held at the run's start (document 01, "The tallies").
 pub record Stands (layout : Layout) (shape : Shape) (before : List ℕ) (h : Heap) (l : Lists) (s : State) : Type 0 where
   pub frontier : Frontier (layout .nodes) (layout .slots) (layout .segments) (l .words)
   pub places : (v : ℕ) → v < layout .nodes → getD (Words.places (layout .nodes) (l .words)) v 0 ≡ placeOf (slotWord (layout .segments)) shape (s .front) h v
