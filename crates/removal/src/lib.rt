@@ -7,7 +7,7 @@ use state::Tally;
 use types::Node;
 ghost use mathlib.Core.Path.{_≡_};
 ghost use mathlib.Core.List.{List};
-ghost use Prim.Native.Nat.{ℕ, _<_, _≤_};
+ghost use Prim.Native.Nat.{ℕ, _-_, _<_, _≤_};
 ghost use Rattle.removal.specs.Finding.{Holds, LowestBucket, InBucketSome, LowestSegment};
 ghost use Rattle.removal.specs.Removing.{SomeRests, Removes, looksOf, Renews, renewed};
 ghost use Rattle.removal.specs.Moving.{Moves, Moved, ShiftedFrom, Pours, Poured};
@@ -153,6 +153,21 @@ fn renew_bounds(
     bounds::set_bounds(words, n, sizes, end, key - 1, 1, bucket);
 }
 
+// The segment of bucket 1 that holds the current key, tested one by one from segment 1. A segment of bucket 1 is one key wide, so segment
+// k ends K - k keys below the bound (document 01, "Two-level heap").
+fn current_segment(segments: usize, bound: u32, front: u32) -> usize
+    requires { ⌜ front ≤ bound ⌝ }
+    requires { ⌜ bound - front < segments ⌝ }
+    ensures { λ r. ⌜ r ≡ segments - (bound - front) ⌝ }
+{
+    let below = (bound - front) as usize;
+    let mut tested = 1;
+    while below < segments - tested {
+        tested += 1;
+    }
+    tested
+}
+
 // The node of smallest number at the current key is removed, from bucket 1.
 fn remove_current(
     words: &mut [u32],
@@ -169,7 +184,7 @@ fn remove_current(
     let n = layout.nodes;
     let segments = layout.segments;
     let bound = words[4 * n + 1];
-    let segment = bounds::segment_of(sizes, segments, layout.buckets, 1, bound, state.front);
+    let segment = current_segment(segments, bound, state.front);
     let looks = looks_of(segments, 1, segment);
     let v = frontier::take_current(words, n, layout.slots, segments);
     let at = state.reached as usize;

@@ -2,21 +2,18 @@
 use native.Mathlib.Omega.{arith}
 use mathlib.Core.Path.{_≡_, refl}
 use Rattle.removal.proofs.Counts.{reached-low, roster-long, nodes-few, looks-few, looks-most}
-use Rattle.removal.proofs.Current.{current-node, segment-low, segment-high, under, current-removal}
+use Rattle.removal.proofs.Current.{current-node, under, within, segment-is, current-removal}
 use borrow.Author.Needs.{needs}
 use Rattle.removal.proofs.remove_current.Statement.{statement}
 use Rattle.removal.proofs.remove_current.Tie as tie
 
-segment-of-requires : tie.Need-segment-of-requires
-segment-of-requires c κs =
-    let p = c .before .before .before .before .before .pre in
-    let R = p .0 .rests in
-    (p .0 .setting .agrees .sized, (omega arith, (under R (p .1), segment-low R (p .1))))
+current-segment-requires : tie.Need-current-segment-requires
+current-segment-requires c κs = let p = c .before .before .before .before .before .pre in (under (p .0 .rests) (p .1), within (p .0 .rests) (p .1))
 
 looks-of-requires : tie.Need-looks-of-requires
 looks-of-requires c κs =
     let p = c .before .before .before .before .before .before .pre in
-    (omega arith, omega (arith, c .segment-of .ensures, segment-high (p .0 .rests) (p .1), p .0 .setting .agrees .most))
+    (omega arith, omega (arith, c .current-segment .ensures, p .0 .setting .agrees .most))
 
 take-current-requires : tie.Need-take-current-requires
 take-current-requires c κs = let p = c .before .before .before .before .before .before .before .before .pre in (p .0 .rests .stands .frontier, current-node (p .0 .rests) (p .1))
@@ -30,14 +27,15 @@ add-t22 c = let R = c .before .before .before .before .before .before .before .b
 looked-requires : tie.Need-looked-requires
 looked-requires c κs =
     let p = c .before .before .before .before .before .before .before .before .before .before .before .before .before .before .pre in
-    let a = c .before .before .before .before .before .before .before .before .segment-of in
-    omega (arith, looks-few (p .0 .rests), c .before .before .before .before .before .before .before .looks-of .ensures, looks-most (c .before .before .before .before .before .before .before .before .before .before .before .before .before .before .args .layout .segments) 1 (a .result), a .ensures, segment-high (p .0 .rests) (p .1), p .0 .setting .agrees .most)
+    let a = c .before .before .before .before .before .before .before .before .current-segment in
+    omega (arith, looks-few (p .0 .rests), c .before .before .before .before .before .before .before .looks-of .ensures, looks-most (c .before .before .before .before .before .before .before .before .before .before .before .before .before .before .args .layout .segments) 1 (a .result), a .ensures, p .0 .setting .agrees .most)
 
 returns : tie.Need-returns
 returns c X before parents h R =
     let t = c .looked .ensures in
-    current-removal R (c .before .before .before .before .before .before .before .before .before .before .before .before .before .before .before .pre .1) (c .before .before .before .before .before .before .take-current .ensures) refl (omega (arith, c .before .before .before .before .before .before .before .before .before .before .before .before .before .before .before .pre .1)) refl (t .0) (t .1) (t .2)
-    (cc (t .3, c .before .before .before .before .before .before .before .before .looks-of .ensures, c .before .before .before .before .before .before .before .before .before .segment-of .ensures))
+    let some = c .before .before .before .before .before .before .before .before .before .before .before .before .before .before .before .pre .1 in
+    current-removal R some (c .before .before .before .before .before .before .take-current .ensures) refl (omega arith) refl (t .0) (t .1) (t .2)
+    (cc (t .3, c .before .before .before .before .before .before .before .before .looks-of .ensures, c .before .before .before .before .before .before .before .before .before .current-segment .ensures, segment-is R some))
 
 pub remove-current-spec : {M : Type 1} → statement M
 remove-current-spec =
@@ -47,7 +45,7 @@ remove-current-spec =
     (λ c. search needs)
     (λ c. search needs)
     (λ c. search needs)
-    segment-of-requires
+    current-segment-requires
     looks-of-requires
     take-current-requires
     (λ c. search needs)
