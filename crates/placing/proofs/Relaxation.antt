@@ -19,7 +19,7 @@ use Rattle.theory.proofs.Heap.Run.{Relaxing, improving}
 use Rattle.state.specs.declared.Layout.{Layout}
 use Rattle.state.specs.declared.State.{State}
 use Rattle.state.specs.Stands.{Setting, Lists, Stands}
-use Rattle.state.proofs.Find.{getD-inside}
+use Rattle.theory.proofs.Lists.{getD-inside}
 use Rattle.placing.specs.Placing.{Labels, Relaxes}
 
 links-low : (N : Network) (v : ℕ) (m : Mark) → linksOf N v m ≤ length (N .out v)

@@ -15,6 +15,7 @@ use Rattle.theory.specs.Search.{Mark, unlabelled, labelled, scanned, mark, dist
 use Rattle.theory.specs.Heap.{Heap, bound, bucketOf, keyOf, segmentOf}
 use Rattle.theory.proofs.Cases.{split, same?, differ, mark-cases}
 use Rattle.theory.proofs.Sums.{sum-at}
+use Rattle.theory.proofs.Lists.{getD-inside}
 use Rattle.theory.proofs.Search.Nearest.{Labelled, Least}
 use Rattle.theory.proofs.Search.Invariant.{AtRest, labelled-node}
 use Rattle.theory.proofs.Heap.Buckets.{Fits, fits-order}
@@ -31,12 +32,6 @@ use Rattle.state.specs.Slots.{slotOf, slotWord, SlotFits}
 use Rattle.state.specs.Stands.{Setting, Lists, Stands}
 use Rattle.state.proofs.Places.Label.{place-is}
 use Rattle.state.proofs.Slots.{word-far, slot-bucket, slot-below, same-slot, key-fits}
-
--- What stands in a list does not depend on the default.
-pub getD-inside : {A : Type 0} (l : List A) (i : ℕ) (a b : A) → i < length l → getD l i a ≡ getD l i b
-getD-inside [] i a b h = absurd (omega arith)
-getD-inside (x ∷ l) zero a b h = refl
-getD-inside (x ∷ l) (suc i) a b h = getD-inside l i a b (omega arith)
 
 -- A sum that is not 0 has a term that is not.
 pub sum-some : (n : ℕ) (f : ℕ → ℕ) → 0 < sumBelow n f → (v : ℕ) × (v < n) × (0 < f v)

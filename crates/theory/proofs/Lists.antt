@@ -16,6 +16,12 @@ inside [] i d h = absurd (h refl)
 inside (x ∷ l) zero d h = omega arith
 inside (x ∷ l) (suc i) d h = suc-le-suc (inside l i d h)
 
+-- What stands in a list does not depend on the default.
+pub getD-inside : {A : Type 0} (l : List A) (i : ℕ) (a b : A) → i < length l → getD l i a ≡ getD l i b
+getD-inside [] i a b h = absurd (omega arith)
+getD-inside (x ∷ l) zero a b h = refl
+getD-inside (x ∷ l) (suc i) a b h = getD-inside l i a b (omega arith)
+
 pub getD-replicate-same : {A : Type 0} (n i : ℕ) (a : A) → getD (replicate n a) i a ≡ a
 getD-replicate-same zero i a = refl
 getD-replicate-same (suc n) zero a = refl
