@@ -12,7 +12,7 @@ use Rattle.checks.proofs.Tests.{or-left, or-right, or-neither}
 
 -- ---- one test
 
-passed-test : (number place : ℕ) (fails : Bool) → faultIf number place fails ≡ Passed → fails ≡ false
+pub passed-test : (number place : ℕ) (fails : Bool) → faultIf number place fails ≡ Passed → fails ≡ false
 unfolding faultIf
 passed-test number place true e = absurd (let z : _≡_ {A = ℕ} 0 1 = cc in omega arith)
 passed-test number place false e = refl

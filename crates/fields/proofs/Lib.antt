@@ -1,0 +1,6 @@
+mod Digits
+mod Formed
+pub mod Lines
+pub mod Decimals
+pub mod Parsing
+pub mod Written

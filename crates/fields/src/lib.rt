@@ -1,0 +1,9 @@
+// Decimal fields and lines of them, in bytes (document 01, "Planning file").
+pub mod reading;
+pub mod writing;
+
+// A field's value, and the number of bytes that it takes with the byte that ends it.
+pub enum Field {
+    NoField,
+    Value { value: u32, length: usize },
+}

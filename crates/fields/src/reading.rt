@@ -1,0 +1,65 @@
+// A field read from bytes (document 01, "Planning file").
+use crate::Field;
+ghost use mathlib.Core.Path.{_≡_};
+ghost use Prim.Native.Nat.{_≤_};
+ghost use lib.ListN.{length, drop};
+ghost use Rattle.fields.specs.Fields.{field, isDigit, byteAt};
+ghost use Rattle.fields.specs.Reading.{DigitsRead};
+
+// The digits at a place, of which one more than a field has are enough to refuse it, and the number that they spell.
+struct Digits {
+    count: usize,
+    value: u32,
+}
+
+// The field at a place of the bytes, ended by byte `end`.
+pub fn field_at(bytes: &[u8], at: usize, end: u8) -> Field
+    requires { ⌜ at ≤ length (now bytes) ⌝ }
+    ensures { λ r. ⌜ r ≡ field end (drop at (now (bytes .entry))) ⌝ }
+{
+    let read = digits_at(bytes, at);
+    let count = read.count;
+    let alone = (count == 1) | (byte_at(bytes, at) != 48);
+    let ended = byte_at(bytes, at + count) == end as u32;
+    if (count >= 1) & (count <= 7) & alone & ended {
+        Field::Value {
+            value: read.value,
+            length: count + 1,
+        }
+    } else {
+        Field::NoField
+    }
+}
+
+fn digits_at(bytes: &[u8], at: usize) -> Digits
+    requires { ⌜ at ≤ length (now bytes) ⌝ }
+    ensures { λ r. ⌜ DigitsRead (drop at (now (bytes .entry))) (r .count) (r .value) ⌝ }
+{
+    let mut count = 0;
+    let mut value = 0;
+    loop {
+        let byte = byte_at(bytes, at + count);
+        if (count == 8) | !is_digit(byte) {
+            return Digits { count, value };
+        }
+        value = 10 * value + (byte - 48);
+        count += 1;
+    }
+}
+
+fn is_digit(byte: u32) -> bool
+    ensures { λ r. ⌜ r ≡ isDigit byte ⌝ }
+{
+    (byte >= 48) & (byte <= 57)
+}
+
+// Past the last byte it is 256, which is neither a digit nor what ends a field.
+fn byte_at(bytes: &[u8], i: usize) -> u32
+    ensures { λ r. ⌜ r ≡ byteAt (now (bytes .entry)) i ⌝ }
+{
+    if i < bytes.len() {
+        bytes[i] as u32
+    } else {
+        256
+    }
+}

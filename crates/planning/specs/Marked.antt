@@ -1,0 +1,44 @@
+-- The marked edges (document 01, "Edges, marked * where proved") as one table: the rows of numbers that `theory` has, and whole planning
+-- files with what `plan` prints for them.
+use Prim.Native.Nat.{ℕ}
+use Prim.Native.String.{String}
+use mathlib.Core.List.{List, [], _∷_, _++_, map}
+use Rattle.theory.specs.Edges.{Answer, Row, answerTo, edges}
+use Rattle.fields.specs.Texts.{bytesOf}
+use Rattle.planning.specs.Planning.{planText}
+
+-- A marked case: numbers of a heap or a run, or a planning file and what is printed for it (document 01, "Edges, marked * where proved").
+pub data Case : Type 0 where
+  numbers : Row → Case
+  printed : (file text : String) → Case
+
+-- What is told of a case.
+pub data Told : Type 0 where
+  answer : Answer → Told
+  bytes : List ℕ → Told
+
+-- What the definitions give.
+unfoldable pub given : Case → Told
+given (numbers row) = answer (answerTo (row .question))
+given (printed file text) = bytes (planText (bytesOf file))
+
+-- What document 01 says.
+unfoldable pub said : Case → Told
+said (numbers row) = answer (row .answer)
+said (printed file text) = bytes (bytesOf text)
+
+-- The files: the listing and `1,0,0,0,2` (document 01, "Planning file" and "Edges, marked * where proved"); arcs 0→1 and 1→0, both of cost
+-- 0, with C 0 and K 2; and, of our own, three refusals: an empty file, the listing without its last line feed, and a tail that falls.
+unfoldable pub files : List Case
+files =
+    printed "5,7,9,0,3\n0,1,9\n0,2,4\n0,3,6\n2,1,4\n2,3,2\n3,1,0\n4,0,1\n" "5,7,4,2\none,6,7,9\ntwo,4,7,11\n0,0,-\n1,6,5\n2,4,1\n3,6,2\n4,-,-\n"
+    ∷ printed "1,0,0,0,2\n" "1,0,1,0\none,2,1,1\ntwo,2,1,2\n0,0,-\n"
+    ∷ printed "2,2,0,0,2\n0,1,0\n1,0,0\n" "2,2,2,0\none,2,2,2\ntwo,2,2,4\n0,0,-\n1,0,0\n"
+    ∷ printed "" "refused,11,1\n"
+    ∷ printed "5,7,9,0,3\n0,1,9\n0,2,4\n0,3,6\n2,1,4\n2,3,2\n3,1,0\n4,0,1" "refused,11,8\n"
+    ∷ printed "2,2,0,0,2\n1,0,0\n0,1,0\n" "refused,12,1\n"
+    ∷ []
+
+-- The whole table (document 01, "Edges, marked * where proved").
+abbrev pub marked : List Case
+marked = map numbers edges ++ files

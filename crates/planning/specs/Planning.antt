@@ -1,0 +1,157 @@
+-- What `plan` prints for every input, and what it leaves in the lists that it lends (document 01, "Planning file" and "What a call
+-- returns").
+use Prim.Native.Nat.{ℕ, _+_, _≤_}
+use mathlib.Core.Bool.{cond}
+use mathlib.Core.Path.{_≡_}
+use mathlib.Core.List.{List}
+use lib.Dec.{ltb, eqb}
+use lib.ListN.{length, take, replicate}
+use Rattle.types.specs.declared.Check.{Check}
+use Rattle.types.specs.declared.Check.the-variants.{Passed, Fault}
+use Rattle.types.specs.Answers.{Numbers}
+use Rattle.theory.specs.Maps.{Map, mapOf}
+use Rattle.theory.specs.Shape.{oneLevelBuckets, twoLevelBuckets}
+use Rattle.theory.specs.Heap.{Heap, placements}
+use Rattle.theory.specs.Runs.{oneLevelRun, twoLevelRun}
+use Rattle.checks.specs.Checks.{firstFault, oneLevelChecks, twoLevelChecks, twoLevelWork}
+use Rattle.runs.specs.Promise.{runWords, RosterAfter}
+use Rattle.fields.specs.Writing.{Writes}
+use Rattle.reader.specs.Checking.{planCheck}
+use Rattle.reader.specs.Plans.{Header, PlanArc, planHeader, planArcs, startsOf, headsOf, costsOf}
+use Rattle.reader.specs.Promise.{planWords}
+use Rattle.report.specs.Report.{refusedText, acceptedText}
+use Rattle.planning.specs.declared.RunNumbers.{RunNumbers}
+
+-- ---- the text
+
+-- The most bytes that `plan` takes (document 01, "Planning file").
+abbrev pub mostBytes : ℕ
+mostBytes = 65536
+
+-- 13 before any line is read, then the reader's checks with the words that `plan` lends (document 01, "What a call returns" and
+-- "Planning file").
+unfoldable pub planningCheck : (bytes : List ℕ) → Check
+planningCheck bytes = cond (ltb mostBytes (length bytes)) (Fault 13 0) (planCheck bytes 513 2048 2048)
+
+-- The map of a planning file (document 01, "Planning file").
+abbrev pub planMap : Header → List PlanArc → Map
+planMap header arcs = mapOf (header .nodes) (startsOf (header .nodes) arcs) (headsOf (header .nodes) arcs) (costsOf (header .nodes) arcs)
+
+-- The steps of the one-level run of a planning file (document 01, "One-level heap").
+abbrev pub planOneLevel : Header → List PlanArc → Heap
+planOneLevel header arcs = oneLevelRun (planMap header arcs) (header .ceiling) (header .source)
+
+-- The steps of the two-level run of a planning file (document 01, "Two-level heap").
+abbrev pub planTwoLevel : Header → List PlanArc → Heap
+planTwoLevel header arcs = twoLevelRun (planMap header arcs) (header .ceiling) (header .source) (header .segments)
+
+-- The answer's text, of the steps of both heaps. Decreases, distances and parents are equal for both, and the one-level heap's are told
+-- (document 01, "Planning file").
+abbrev pub heapsText : Header → (one two : Heap) → List ℕ
+heapsText header one two =
+    acceptedText (header .nodes) (header .arcs) (length (one .search .roster)) (one .search .decreases)
+    (oneLevelBuckets (header .ceiling)) (placements one) (one .looks)
+    (twoLevelBuckets (header .ceiling) (header .segments)) (placements two) (two .looks)
+    (one .search .distances) (one .search .parents)
+
+-- The text for a file whose checks come to `check` (document 01, "Planning file").
+abbrev pub checkedText : Check → Header → List PlanArc → List ℕ
+checkedText Passed header arcs = heapsText header (planOneLevel header arcs) (planTwoLevel header arcs)
+checkedText (Fault number place) header arcs = refusedText number place
+
+-- What `plan` prints (document 01, "Planning file").
+unfoldable pub planText : (bytes : List ℕ) → List ℕ
+planText bytes = checkedText (planningCheck bytes) (planHeader bytes) (planArcs bytes)
+
+-- ---- the lists
+
+-- The lists that `plan` lends (document 01, "Planning file").
+pub record PlanLists : Type 0 where
+  pub starts : List ℕ
+  pub heads : List ℕ
+  pub costs : List ℕ
+  pub distances : List ℕ
+  pub parents : List ℕ
+  pub roster : List ℕ
+  pub work : List ℕ
+
+-- The lists from their parts (document 01, "Planning file").
+abbrev pub planLists : (starts heads costs distances parents roster work : List ℕ) → PlanLists
+planLists starts heads costs distances parents roster work = record {
+  starts = starts;
+  heads = heads;
+  costs = costs;
+  distances = distances;
+  parents = parents;
+  roster = roster;
+  work = work;
+}
+
+-- The text is written, and the lists hold the map and what the runs give back; the two-level run is made behind the one-level run, and the
+-- order of equal distances in its roster is left open (document 01, "Planning file" and "What the planner holds and leaves out").
+pub record Answered (check : Check) (header : Header) (arcs : List PlanArc) (l l′ : PlanLists) (output output′ : List ℕ) (bytes : ℕ) : Type 0 where
+  pub text : Writes 0 (checkedText check header arcs) output output′ bytes
+  pub starts-after : l′ .starts ≡ planWords check (startsOf (header .nodes) arcs) (l .starts)
+  pub heads-after : l′ .heads ≡ planWords check (headsOf (header .nodes) arcs) (l .heads)
+  pub costs-after : l′ .costs ≡ planWords check (costsOf (header .nodes) arcs) (l .costs)
+  pub distances-after : l′ .distances ≡ runWords check (planOneLevel header arcs .search .distances) (l .distances)
+  pub parents-after : l′ .parents ≡ runWords check (planOneLevel header arcs .search .parents) (l .parents)
+  pub roster-after : RosterAfter check (planMap header arcs) (header .source) (planTwoLevel header arcs) (l .roster) (l′ .roster)
+  pub work-after : l′ .work ≡ runWords check (replicate (twoLevelWork (header .nodes)) 0) (l .work)
+
+-- From bytes to bytes, for every input (document 01, "Planning file" and "What a call returns").
+abbrev pub PlanningPromised : (bytes : List ℕ) → (l l′ : PlanLists) → (output output′ : List ℕ) → (written : ℕ) → Type 0
+PlanningPromised bytes l l′ output output′ written =
+    Answered (planningCheck bytes) (planHeader bytes) (planArcs bytes) l l′ output output′ written
+
+-- ---- what the code goes by
+
+-- The words that `plan` lends of each list, and the bytes of its output, which are enough for every answer (document 01, "Planning file").
+pub record Lends (l : PlanLists) (output : List ℕ) : Type 0 where
+  pub starts-words : length (l .starts) ≡ 513
+  pub heads-words : length (l .heads) ≡ 2048
+  pub costs-words : length (l .costs) ≡ 2048
+  pub distances-words : length (l .distances) ≡ 512
+  pub parents-words : length (l .parents) ≡ 512
+  pub roster-words : length (l .roster) ≡ 512
+  pub work-words : length (l .work) ≡ 2432
+  pub output-bytes : length output ≡ 33280
+
+-- The numbers that a run has returned, as document 01 names them (document 01, "What a call returns").
+abbrev pub told : RunNumbers → Numbers
+told run = record {
+  returned = run .returned;
+  place = run .place;
+  reached = run .reached;
+  buckets = run .buckets;
+  decreases = run .decreases;
+  placements = run .placements;
+  looks = run .looks;
+}
+
+-- The text of what two runs have returned. Runs of a map that has been read refuse nothing (document 01, "Planning file").
+unfoldable pub runsText : (nodes arcs : ℕ) → (one two : Numbers) → (distances parents : List ℕ) → List ℕ
+runsText nodes arcs one two distances parents =
+    cond (eqb (one .returned) 0)
+    (cond (eqb (two .returned) 0)
+    (acceptedText nodes arcs (one .reached) (one .decreases) (one .buckets) (one .placements) (one .looks) (two .buckets) (two .placements) (two .looks)
+    distances parents)
+    (refusedText (two .returned) (two .place)))
+    (refusedText (one .returned) (one .place))
+
+-- A map that has been read into the lists, which both runs accept (document 01, "Planning file").
+pub record Runnable (n m C source K : ℕ) (l : PlanLists) : Type 0 where
+  pub starts-fit : n + 1 ≤ length (l .starts)
+  pub heads-fit : m ≤ length (l .heads)
+  pub costs-fit : m ≤ length (l .costs)
+  pub nodes-fit : n ≤ 512
+  pub one-accepted : firstFault (oneLevelChecks n C source (take (n + 1) (l .starts)) (take m (l .heads)) (take m (l .costs)) (length (l .distances)) (length (l .parents)) (length (l .roster)) (length (l .work))) ≡ Passed
+  pub two-accepted : firstFault (twoLevelChecks n C source K (take (n + 1) (l .starts)) (take m (l .heads)) (take m (l .costs)) (length (l .distances)) (length (l .parents)) (length (l .roster)) (length (l .work))) ≡ Passed
+
+-- Both runs of the map in the lists are made and told (document 01, "Planning file").
+pub record BothRun (n m C source K : ℕ) (l l′ : PlanLists) (output output′ : List ℕ) (written : ℕ) (one two : Heap) : Type 0 where
+  pub text : Writes 0 (heapsText (record { nodes = n; arcs = m; ceiling = C; source = source; segments = K; length = 0 }) one two) output output′ written
+  pub distances-after : l′ .distances ≡ runWords Passed (one .search .distances) (l .distances)
+  pub parents-after : l′ .parents ≡ runWords Passed (one .search .parents) (l .parents)
+  pub roster-after : RosterAfter Passed (mapOf n (take (n + 1) (l .starts)) (take m (l .heads)) (take m (l .costs))) source two (l .roster) (l′ .roster)
+  pub work-after : l′ .work ≡ runWords Passed (replicate (twoLevelWork n) 0) (l .work)

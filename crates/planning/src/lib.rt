@@ -1,0 +1,243 @@
+// From the bytes of a planning file to the bytes that `plan` prints (document 01, "Planning file").
+use reader::PlanAnswer;
+use report::HeapNumbers;
+use types::Node;
+use types::RunAnswer;
+ghost use mathlib.Core.Path.{_≡_};
+ghost use Prim.Native.Nat.{_+_, _*_, _≤_};
+ghost use lib.ListN.{length, take};
+ghost use Rattle.types.specs.Answers.{numbersOf};
+ghost use Rattle.theory.specs.Maps.{mapOf};
+ghost use Rattle.theory.specs.Runs.{oneLevelRun, twoLevelRun};
+ghost use Rattle.fields.specs.Writing.{Writes};
+ghost use Rattle.planning.specs.Planning.{planLists, PlanningPromised, Lends, told, runsText, Runnable, BothRun};
+
+// What a run has returned: number and place, then its numbers.
+pub struct RunNumbers {
+    pub returned: u32,
+    pub place: usize,
+    pub reached: u32,
+    pub buckets: u32,
+    pub decreases: u32,
+    pub placements: u32,
+    pub looks: u32,
+}
+
+fn numbers_of(answer: RunAnswer) -> RunNumbers
+    ensures { λ r. ⌜ told r ≡ numbersOf answer ⌝ }
+{
+    match answer {
+        RunAnswer::Accepted {
+            reached,
+            buckets,
+            decreases,
+            placements,
+            looks,
+        } => RunNumbers {
+            returned: 0,
+            place: 0,
+            reached,
+            buckets,
+            decreases,
+            placements,
+            looks,
+        },
+        RunAnswer::Refused { number, place } => RunNumbers {
+            returned: number,
+            place,
+            reached: 0,
+            buckets: 0,
+            decreases: 0,
+            placements: 0,
+            looks: 0,
+        },
+    }
+}
+
+// What both runs have returned. A run's refusal would be told too, though none can come.
+fn write_runs(
+    output: &mut [u8],
+    nodes: u32,
+    arcs: u32,
+    one: RunNumbers,
+    two: RunNumbers,
+    distances: &[u32],
+    parents: &[u32],
+) -> usize
+    requires { ⌜ 512 + 64 * nodes ≤ length (now output) ⌝ }
+    requires { ⌜ (nodes ≤ length (now distances)) × (nodes ≤ length (now parents)) ⌝ }
+    ensures { λ r. ⌜ Writes 0 (runsText nodes arcs (told one) (told two) (now (distances .entry)) (now (parents .entry)))
+        (now (output .entry)) (now (output .exit)) r ⌝ }
+{
+    if one.returned != 0 {
+        return report::write_refusal(output, one.returned, one.place);
+    }
+    if two.returned != 0 {
+        return report::write_refusal(output, two.returned, two.place);
+    }
+    let first = HeapNumbers {
+        buckets: one.buckets,
+        placements: one.placements,
+        looks: one.looks,
+    };
+    let second = HeapNumbers {
+        buckets: two.buckets,
+        placements: two.placements,
+        looks: two.looks,
+    };
+    report::write_answer(
+        output,
+        nodes,
+        arcs,
+        one.reached,
+        one.decreases,
+        first,
+        second,
+        distances,
+        parents,
+    )
+}
+
+// Both runs of the map in the lists, and their answer.
+fn plan_map(
+    nodes: u32,
+    arcs: u32,
+    ceiling: u32,
+    source: Node,
+    segments: u32,
+    starts: &[u32],
+    heads: &[u32],
+    costs: &[u32],
+    distances: &mut [u32],
+    parents: &mut [u32],
+    roster: &mut [u32],
+    work: &mut [u32],
+    output: &mut [u8],
+) -> usize
+    requires { ⌜ Runnable nodes arcs ceiling (source .0) segments
+        (planLists (now starts) (now heads) (now costs) (now distances) (now parents) (now roster) (now work)) ⌝ }
+    requires { ⌜ length (now output) ≡ 33280 ⌝ }
+    ensures { λ r. ⌜ BothRun nodes arcs ceiling (source .0) segments
+        (planLists (now (starts .entry)) (now (heads .entry)) (now (costs .entry)) (now (distances .entry)) (now (parents .entry)) (now (roster .entry)) (now (work .entry)))
+        (planLists (now (starts .entry)) (now (heads .entry)) (now (costs .entry)) (now (distances .exit)) (now (parents .exit)) (now (roster .exit)) (now (work .exit)))
+        (now (output .entry)) (now (output .exit)) r
+        (oneLevelRun (mapOf nodes (take (nodes + 1) (now (starts .entry))) (take arcs (now (heads .entry))) (take arcs (now (costs .entry)))) ceiling (source .0))
+        (twoLevelRun (mapOf nodes (take (nodes + 1) (now (starts .entry))) (take arcs (now (heads .entry))) (take arcs (now (costs .entry)))) ceiling (source .0) segments) ⌝ }
+{
+    let n = nodes as usize;
+    let m = arcs as usize;
+    let map_starts = &starts[..n + 1];
+    let map_heads = &heads[..m];
+    let map_costs = &costs[..m];
+    let one = runs::one_level(
+        nodes,
+        ceiling,
+        source,
+        map_starts,
+        map_heads,
+        map_costs,
+        distances,
+        parents,
+        roster,
+        work,
+    );
+    let two = runs::two_level(
+        nodes,
+        ceiling,
+        source,
+        segments,
+        map_starts,
+        map_heads,
+        map_costs,
+        distances,
+        parents,
+        roster,
+        work,
+    );
+    write_runs(
+        output,
+        nodes,
+        arcs,
+        numbers_of(one),
+        numbers_of(two),
+        distances,
+        parents,
+    )
+}
+
+// The lists as slices.
+fn answer_in(
+    bytes: &[u8],
+    starts: &mut [u32],
+    heads: &mut [u32],
+    costs: &mut [u32],
+    distances: &mut [u32],
+    parents: &mut [u32],
+    roster: &mut [u32],
+    work: &mut [u32],
+    output: &mut [u8],
+) -> usize
+    requires { ⌜ Lends (planLists (now starts) (now heads) (now costs) (now distances) (now parents) (now roster) (now work)) (now output) ⌝ }
+    ensures { λ r. ⌜ PlanningPromised (now (bytes .entry))
+        (planLists (now (starts .entry)) (now (heads .entry)) (now (costs .entry)) (now (distances .entry)) (now (parents .entry)) (now (roster .entry)) (now (work .entry)))
+        (planLists (now (starts .exit)) (now (heads .exit)) (now (costs .exit)) (now (distances .exit)) (now (parents .exit)) (now (roster .exit)) (now (work .exit)))
+        (now (output .entry)) (now (output .exit)) r ⌝ }
+{
+    if bytes.len() > 65536 {
+        return report::write_refusal(output, 13, 0);
+    }
+    match reader::read(bytes, starts, heads, costs) {
+        PlanAnswer::Refused { number, place } => report::write_refusal(output, number, place),
+        PlanAnswer::Read {
+            nodes,
+            arcs,
+            ceiling,
+            source,
+            segments,
+        } => plan_map(
+            nodes,
+            arcs,
+            ceiling,
+            source,
+            segments,
+            starts,
+            heads,
+            costs,
+            distances,
+            parents,
+            roster,
+            work,
+            output,
+        ),
+    }
+}
+
+// What `plan` prints for the bytes of a planning file: it is written to the front of the output, and its length is given back.
+pub fn answer(
+    bytes: &[u8],
+    starts: &mut [u32; 513],
+    heads: &mut [u32; 2048],
+    costs: &mut [u32; 2048],
+    distances: &mut [u32; 512],
+    parents: &mut [u32; 512],
+    roster: &mut [u32; 512],
+    work: &mut [u32; 2432],
+    output: &mut [u8; 33280],
+) -> usize
+    ensures { λ r. ⌜ PlanningPromised (now (bytes .entry))
+        (planLists (now (starts .entry)) (now (heads .entry)) (now (costs .entry)) (now (distances .entry)) (now (parents .entry)) (now (roster .entry)) (now (work .entry)))
+        (planLists (now (starts .exit)) (now (heads .exit)) (now (costs .exit)) (now (distances .exit)) (now (parents .exit)) (now (roster .exit)) (now (work .exit)))
+        (now (output .entry)) (now (output .exit)) r ⌝ }
+{
+    answer_in(
+        bytes,
+        starts,
+        heads,
+        costs,
+        distances,
+        parents,
+        roster,
+        work,
+        output,
+    )
+}

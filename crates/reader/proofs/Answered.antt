@@ -1,0 +1,82 @@
+-- What the reader promises, from what its two passes give. Assumes nothing.
+use mathlib.Core.Path.{_≡_, refl}
+use mathlib.Core.List.{List, [], _∷_, _++_}
+use Prim.Native.Nat.{ℕ, _+_, _≤_}
+use native.Mathlib.Omega.{arith}
+use lib.ListN.{length, drop}
+use Rattle.types.specs.declared.Check.the-variants.{Passed, Fault}
+use Rattle.types.specs.declared.Node.{Node}
+use Rattle.fields.specs.Fields.{Line, NoLine, Numbers, comma, line}
+use Rattle.fields.proofs.Lines.{line-within}
+use Rattle.checks.specs.Checks.{firstFault, lentChecks}
+use Rattle.checks.proofs.Order.{AllPass, none, more, passed-all}
+use Rattle.checks.proofs.Sizes.{passed-lent}
+use Rattle.reader.specs.declared.HeaderLine.the-variants.{NoHeader, HeaderRead}
+use Rattle.reader.specs.declared.PlanAnswer.the-variants.{Read, Refused}
+use Rattle.reader.specs.Lines.{headerOf, headerLine}
+use Rattle.reader.specs.Checking.{arcsCheck, headerChecks, planCheck}
+use Rattle.reader.specs.Plans.{linesArcs}
+use Rattle.reader.specs.Promise.{PlanPromised}
+use Rattle.reader.specs.Filling.{Fillable, Filled}
+
+-- ---- line 1
+
+pub header-within : (bytes : List ℕ) {n m C source K taken : ℕ} → headerLine bytes ≡ HeaderRead n m C source K taken → taken ≤ length bytes
+unfolding headerLine
+header-within bytes {n} {m} {C} {source} {K} {taken} e = go (line comma 5 bytes) refl e
+  where
+    go : (found : Line) → line comma 5 bytes ≡ found → headerOf found ≡ HeaderRead n m C source K taken → taken ≤ length bytes
+    go NoLine f e = absurd (let z : _≡_ {A = ℕ} 0 1 = cc in omega arith)
+    go (Numbers values taken′) f e =
+        let same : taken′ ≡ taken = cc in
+        omega (arith, line-within comma 5 (omega arith) bytes values taken′ f)
+
+-- ---- a refusal
+
+module _ (bytes starts heads costs : List ℕ) where
+  pub refused-promised : {number place : ℕ} → planCheck bytes (length starts) (length heads) (length costs) ≡ Fault number place
+      → PlanPromised bytes starts heads costs starts heads costs (Refused number place)
+  refused-promised e = rw e (record { read = refl; numbers = refl; starts-after = refl; heads-after = refl; costs-after = refl })
+
+  pub no-header-promised : headerLine bytes ≡ NoHeader → PlanPromised bytes starts heads costs starts heads costs (Refused 11 1)
+  unfolding planCheck
+  no-header-promised e = refused-promised (rw e)
+
+-- ---- a file that is read
+
+module _ (bytes starts heads costs : List ℕ) {n m C source K taken : ℕ} (e : headerLine bytes ≡ HeaderRead n m C source K taken)
+  where
+    pub plan-check-is : planCheck bytes (length starts) (length heads) (length costs)
+        ≡ firstFault (headerChecks n m C source K (length starts) (length heads) (length costs) ++ (arcsCheck n C m 0 0 (drop taken bytes) ∷ []))
+    unfolding planCheck
+    plan-check-is = rw e
+
+    pub fillable : firstFault (headerChecks n m C source K (length starts) (length heads) (length costs) ++ (arcsCheck n C m 0 0 (drop taken bytes) ∷ []))
+        ≡ Passed → Fillable n m bytes taken starts heads costs
+    unfolding headerChecks lentChecks
+    fillable p = go (passed-all _ p)
+      where
+        go : AllPass (headerChecks n m C source K (length starts) (length heads) (length costs) ++ (arcsCheck n C m 0 0 (drop taken bytes) ∷ []))
+            → Fillable n m bytes taken starts heads costs
+        go (more one (more four (more two (more three (more nine (more first (more second (more third (more arcs none))))))))) = record {
+          ceiling = C;
+          passed = arcs;
+          within = header-within bytes e;
+          starts-fit = passed-lent 0 (length starts) (n + 1) first;
+          heads-fit = passed-lent 1 (length heads) m second;
+          costs-fit = passed-lent 2 (length costs) m third;
+        }
+
+    pub read-promised : {starts′ heads′ costs′ : List ℕ} (from : Node) → from .0 ≡ source
+        → planCheck bytes (length starts) (length heads) (length costs) ≡ Passed
+        → Filled n (linesArcs m (drop taken bytes)) starts heads costs starts′ heads′ costs′
+        → PlanPromised bytes starts heads costs starts′ heads′ costs′ (Read n m C from K)
+    read-promised from s p f =
+        rw p
+        (record {
+          read = refl;
+          numbers = rw (e, s);
+          starts-after = rw e (f .starts-filled);
+          heads-after = rw e (f .heads-filled);
+          costs-after = rw e (f .costs-filled);
+        })

@@ -1,0 +1,8 @@
+mod Answered
+pub mod Arcs
+mod Lists
+mod Passing
+mod Progress
+pub mod Runnable
+mod Shown
+pub mod Rendered

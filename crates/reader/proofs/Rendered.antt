@@ -1,0 +1,47 @@
+-- What was rendered is read back: line 1's numbers and the arcs. Assumes nothing.
+use Prim.Native.Nat.{ℕ}
+use native.Mathlib.Omega.{arith}
+use mathlib.Core.Path.{_≡_, refl, _∙_, ap}
+use mathlib.Core.List.{List, [], _∷_, _++_}
+use lib.ListN.{length, drop}
+use lib.Seq.{drop-append-seam}
+use Rattle.fields.specs.Fields.{comma, renderLine}
+use Rattle.fields.proofs.Parsing.{FitFields, line-render}
+use Rattle.reader.specs.declared.ArcLine.the-variants.{ArcRead}
+use Rattle.reader.specs.declared.HeaderLine.the-variants.{HeaderRead}
+use Rattle.reader.specs.Lines.{arcOf, arcLine, headerOf, headerLine}
+use Rattle.reader.specs.Plans.{PlanArc, linesArcs, planArcs}
+use Rattle.reader.specs.Rendering.{arcNumbers, renderArcs, renderHeader, renderPlan}
+
+-- Every number of the arcs fits a field.
+abbrev pub FitArcs : List PlanArc → Type 0
+FitArcs [] = Unit {0}
+FitArcs (arc ∷ arcs) = FitFields (arcNumbers arc) × FitArcs arcs
+
+arc-read : (arc : PlanArc) (rest : List ℕ) → FitFields (arcNumbers arc)
+    → arcLine (renderLine comma (arcNumbers arc) ++ rest) ≡ ArcRead (arc .tail) (arc .head) (arc .cost) (length (renderLine comma (arcNumbers arc)))
+unfolding arcLine
+arc-read arc rest fit = ap arcOf (line-render comma refl (arcNumbers arc) rest fit (omega arith))
+
+arcs-read : (arcs : List PlanArc) → FitArcs arcs → linesArcs (length arcs) (renderArcs arcs) ≡ arcs
+unfolding linesArcs renderArcs
+arcs-read [] fit = refl
+arcs-read (arc ∷ arcs) fit =
+    rw (
+      arc-read arc (renderArcs arcs) (fit .0),
+      drop-append-seam (renderLine comma (arcNumbers arc)) (renderArcs arcs),
+      arcs-read arcs (fit .1),
+    ) refl
+
+module _ (n C source K : ℕ) (arcs : List PlanArc) (fit : FitFields (n ∷ length arcs ∷ C ∷ source ∷ K ∷ [])) where
+  pub header-rendered : headerLine (renderPlan n (length arcs) C source K arcs)
+      ≡ HeaderRead n (length arcs) C source K (length (renderHeader n (length arcs) C source K))
+  unfolding headerLine renderPlan
+  header-rendered = ap headerOf (line-render comma refl (n ∷ length arcs ∷ C ∷ source ∷ K ∷ []) (renderArcs arcs) fit (omega arith))
+
+  behind : drop (length (renderHeader n (length arcs) C source K)) (renderPlan n (length arcs) C source K arcs) ≡ renderArcs arcs
+  unfolding renderPlan
+  behind = drop-append-seam (renderHeader n (length arcs) C source K) (renderArcs arcs)
+
+  pub arcs-rendered : FitArcs arcs → planArcs (renderPlan n (length arcs) C source K arcs) ≡ arcs
+  arcs-rendered fits = rw header-rendered (ap (linesArcs (length arcs)) behind ∙ arcs-read arcs fits)

@@ -1,0 +1,139 @@
+-- A planning file that passes its checks gives a map that passes those of both runs. Assumes nothing.
+use mathlib.Core.Path.{_≡_, sym, _∙_}
+use mathlib.Core.List.{List, [], _∷_, _++_}
+use Prim.Native.Nat.{ℕ, suc, _+_, _≤_, _<_}
+use native.Mathlib.Nat.{zero-add}
+use native.Mathlib.Omega.{arith}
+use lib.ListN.{length, drop, length-map}
+use Rattle.types.specs.declared.Check.the-variants.{Passed}
+use Rattle.theory.specs.Maps.{mapOf, Valid}
+use Rattle.checks.specs.Checks.{firstFault, lentChecks, oneLevelChecks, oneLevelWork, twoLevelChecks, twoLevelWork}
+use Rattle.checks.proofs.Order.{AllPass, none, more, passed-all}
+use Rattle.checks.proofs.Sizes.{passed-range, passed-heads, passed-ceiling, passed-source, passed-lent}
+use Rattle.checks.proofs.Valid.{one-level-passes, two-level-passes}
+use Rattle.reader.specs.declared.HeaderLine.{HeaderLine}
+use Rattle.reader.specs.declared.HeaderLine.the-variants.{NoHeader, HeaderRead}
+use Rattle.reader.specs.Lines.{headerLine}
+use Rattle.reader.specs.Checking.{arcsCheck, headerChecks, headerLineCheck, planCheck}
+use Rattle.reader.specs.Plans.{PlanArc, Header, headerNumbers, planHeader, linesArcs, planArcs, numbered, startsOf, headsOf, costsOf, planStarts, planHeads, planCosts}
+use Rattle.reader.proofs.Arcs.{in-order, starts-length, start-at, below-none, below-rises, below-all}
+use Rattle.reader.proofs.Shown.{ArcsShown, arcs-shown}
+
+-- a header and arcs that both runs can be made on
+pub record Runnable (header : Header) (arcs : List PlanArc) : Type 0 where
+  pub valid : Valid (mapOf (header .nodes) (startsOf (header .nodes) arcs) (headsOf (header .nodes) arcs) (costsOf (header .nodes) arcs))
+      (header .ceiling) (header .source)
+  pub heads-count : length (headsOf (header .nodes) arcs) ≡ header .arcs
+  pub costs-count : length (costsOf (header .nodes) arcs) ≡ header .arcs
+  pub segments-low : 2 ≤ header .segments
+  pub segments-high : header .segments ≤ 64
+
+-- ---- the map of arcs that pass
+
+module _ (n C m source : ℕ) (arcs : List PlanArc) (shown : ArcsShown n C m 0 arcs) where
+  ordered : numbered n arcs ≡ arcs
+  ordered = in-order arcs (shown .rising)
+
+  heads-length : length (headsOf n arcs) ≡ m
+  heads-length = rw ordered (length-map arcs (λ (arc : PlanArc). arc .head) ∙ shown .count)
+
+  costs-length : length (costsOf n arcs) ≡ m
+  costs-length = rw ordered (length-map arcs (λ (arc : PlanArc). arc .cost) ∙ shown .count)
+
+  map-valid : 1 ≤ n → n ≤ 4096 → m ≤ 65536 → C ≤ 1048575 → source < n
+      → Valid (mapOf n (startsOf n arcs) (headsOf n arcs) (costsOf n arcs)) C source
+  map-valid some few arcs-few low from = record {
+    some-node = some;
+    few-nodes = few;
+    low-ceiling = low;
+    source-node = from;
+    few-arcs = omega (arith, heads-length);
+    costs-length = costs-length ∙ sym heads-length;
+    starts-length = starts-length 0 (suc n) arcs;
+    starts-first = start-at 0 (suc n) arcs 0 (omega arith) ∙ below-none 0 arcs (shown .rising) (omega arith);
+    starts-rise = λ v l.
+        let here : 0 + v ≡ v = zero-add v in
+        let next : 0 + suc v ≡ suc v = zero-add (suc v) in
+        rw (start-at 0 (suc n) arcs v (omega arith), start-at 0 (suc n) arcs (suc v) (omega arith), here, next) (below-rises v arcs);
+    starts-last =
+        let here : 0 + n ≡ n = zero-add n in
+        start-at 0 (suc n) arcs n (omega arith) ∙ rw here (below-all arcs (shown .rising) ∙ shown .count ∙ sym heads-length);
+    heads-nodes = λ a l. rw ordered (shown .heads-nodes a (omega (arith, heads-length)));
+    costs-most = λ a l. rw ordered (shown .costs-most a (omega (arith, heads-length)));
+  }
+
+-- ---- the checks of a file
+
+module _ (bytes : List ℕ) (starts heads costs : ℕ) where
+  header-runnable : (n m C source K taken : ℕ)
+      → AllPass (headerChecks n m C source K starts heads costs ++ (arcsCheck n C m 0 0 (drop taken bytes) ∷ []))
+      → Runnable (headerNumbers (HeaderRead n m C source K taken)) (linesArcs m (drop taken bytes))
+  unfolding headerChecks lentChecks
+  header-runnable n m C source K taken (more one (more four (more two (more three (more nine (more first (more second (more third (more arcs none))))))))) =
+      let nodes = passed-range 1 n 1 4096 one in
+      let segments = passed-range 9 K 2 64 nine in
+      record {
+        valid =
+            map-valid n C m source (linesArcs m (drop taken bytes)) (arcs-shown n C m 0 0 (drop taken bytes) arcs) (nodes .0) (nodes .1)
+            (passed-heads m four) (passed-ceiling C two) (passed-source n source three);
+        heads-count = heads-length n C m source (linesArcs m (drop taken bytes)) (arcs-shown n C m 0 0 (drop taken bytes) arcs);
+        costs-count = costs-length n C m source (linesArcs m (drop taken bytes)) (arcs-shown n C m 0 0 (drop taken bytes) arcs);
+        segments-low = segments .0;
+        segments-high = segments .1;
+      }
+
+  line-runnable : (line : HeaderLine) → headerLineCheck line bytes starts heads costs ≡ Passed
+      → Runnable (headerNumbers line) (linesArcs (headerNumbers line .arcs) (drop (headerNumbers line .length) bytes))
+  line-runnable NoHeader e = absurd (let z : _≡_ {A = ℕ} 0 1 = cc in omega arith)
+  line-runnable (HeaderRead n m C source K taken) e = header-runnable n m C source K taken (passed-all _ e)
+
+  pub read-runnable : planCheck bytes starts heads costs ≡ Passed → Runnable (planHeader bytes) (planArcs bytes)
+  unfolding planCheck
+  read-runnable e = line-runnable (headerLine bytes) e
+
+-- the lists lent to the reader have the words that the file needs
+pub record ListsFit (header : Header) (starts heads costs : ℕ) : Type 0 where
+  pub starts-fit : header .nodes + 1 ≤ starts
+  pub heads-fit : header .arcs ≤ heads
+  pub costs-fit : header .arcs ≤ costs
+
+module _ (bytes : List ℕ) (starts heads costs : ℕ) where
+  header-fits : (n m C source K taken : ℕ)
+      → AllPass (headerChecks n m C source K starts heads costs ++ (arcsCheck n C m 0 0 (drop taken bytes) ∷ []))
+      → ListsFit (headerNumbers (HeaderRead n m C source K taken)) starts heads costs
+  unfolding headerChecks lentChecks
+  header-fits n m C source K taken (more one (more four (more two (more three (more nine (more first (more second (more third (more arcs none))))))))) = record {
+    starts-fit = passed-lent 0 starts (n + 1) first;
+    heads-fit = passed-lent 1 heads m second;
+    costs-fit = passed-lent 2 costs m third;
+  }
+
+  line-fits : (line : HeaderLine) → headerLineCheck line bytes starts heads costs ≡ Passed → ListsFit (headerNumbers line) starts heads costs
+  line-fits NoHeader e = absurd (let z : _≡_ {A = ℕ} 0 1 = cc in omega arith)
+  line-fits (HeaderRead n m C source K taken) e = header-fits n m C source K taken (passed-all _ e)
+
+  pub read-fits : planCheck bytes starts heads costs ≡ Passed → ListsFit (planHeader bytes) starts heads costs
+  unfolding planCheck
+  read-fits e = line-fits (headerLine bytes) e
+
+-- ---- the checks of the runs
+
+module _ (bytes : List ℕ) (starts heads costs : ℕ) (passed : planCheck bytes starts heads costs ≡ Passed)
+    (distances parents roster work : ℕ) (distances-fit : planHeader bytes .nodes ≤ distances)
+    (parents-fit : planHeader bytes .nodes ≤ parents) (roster-fit : planHeader bytes .nodes ≤ roster) where
+  -- no one-level run on the file's map is refused, where the lists lent to it are long enough
+  pub runs-one-level : oneLevelWork (planHeader bytes .nodes) ≤ work
+      → firstFault (oneLevelChecks (planHeader bytes .nodes) (planHeader bytes .ceiling) (planHeader bytes .source)
+      (planStarts bytes) (planHeads bytes) (planCosts bytes) distances parents roster work) ≡ Passed
+  runs-one-level work-fit =
+      one-level-passes _ _ _ _ _ _ distances parents roster work (read-runnable bytes starts heads costs passed .valid)
+      (record { distances-fit = distances-fit; parents-fit = parents-fit; roster-fit = roster-fit; work-fit = work-fit })
+
+  -- and no two-level run with the file's K
+  pub runs-two-level : twoLevelWork (planHeader bytes .nodes) ≤ work
+      → firstFault (twoLevelChecks (planHeader bytes .nodes) (planHeader bytes .ceiling) (planHeader bytes .source) (planHeader bytes .segments)
+      (planStarts bytes) (planHeads bytes) (planCosts bytes) distances parents roster work) ≡ Passed
+  runs-two-level work-fit =
+      let run = read-runnable bytes starts heads costs passed in
+      two-level-passes _ _ _ _ _ _ distances parents roster work (planHeader bytes .segments) (run .valid) (run .segments-low) (run .segments-high)
+      (record { distances-fit = distances-fit; parents-fit = parents-fit; roster-fit = roster-fit; work-fit = work-fit })

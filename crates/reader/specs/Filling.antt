@@ -1,0 +1,29 @@
+-- The second pass: what it is given, and what it leaves (document 01, "Planning file").
+use Prim.Native.Nat.{ℕ, _+_, _-_, _≤_}
+use mathlib.Core.Path.{_≡_}
+use mathlib.Core.List.{List, _++_}
+use lib.ListN.{length, take, drop, replicate}
+use Rattle.types.specs.declared.Check.the-variants.{Passed}
+use Rattle.reader.specs.Checking.{arcsCheck}
+use Rattle.reader.specs.Plans.{PlanArc, startsOf, headsOf, costsOf}
+use Rattle.reader.specs.Promise.{planWords}
+
+-- What the checks have shown of the lines of m arcs, from a place of the bytes on, and of the lists that they fill (document 01, "What a
+-- call returns").
+pub record Fillable (n m : ℕ) (bytes : List ℕ) (at : ℕ) (starts heads costs : List ℕ) : Type 0 where
+  pub ceiling : ℕ
+  pub passed : arcsCheck n ceiling m 0 0 (drop at bytes) ≡ Passed
+  pub within : at ≤ length bytes
+  pub starts-fit : n + 1 ≤ length starts
+  pub heads-fit : m ≤ length heads
+  pub costs-fit : m ≤ length costs
+
+-- The lists hold the map of the arcs, and words past these are untouched (document 01, "Planning file").
+pub record Filled (n : ℕ) (arcs : List PlanArc) (starts heads costs starts′ heads′ costs′ : List ℕ) : Type 0 where
+  pub starts-filled : starts′ ≡ planWords Passed (startsOf n arcs) starts
+  pub heads-filled : heads′ ≡ planWords Passed (headsOf n arcs) heads
+  pub costs-filled : costs′ ≡ planWords Passed (costsOf n arcs) costs
+
+-- The words from one place up to but not including another are set.
+abbrev pub between : (words : List ℕ) → (from to word : ℕ) → List ℕ
+between words from to word = take from words ++ (replicate (to - from) word ++ drop to words)

@@ -1,0 +1,6 @@
+pub mod Lines
+pub mod Checking
+pub mod Plans
+pub mod Promise
+pub mod Rendering
+pub mod Filling

@@ -1,0 +1,78 @@
+-- What the reader promises for every input (document 01, "Planning file" and "What a call returns").
+use Prim.Native.Nat.{ℕ}
+use mathlib.Core.Bool.{Bool, true, false}
+use mathlib.Core.Path.{_≡_}
+use mathlib.Core.List.{List, _++_}
+use lib.ListN.{length, drop}
+use Rattle.types.specs.declared.Check.{Check}
+use Rattle.types.specs.declared.Check.the-variants.{Passed, Fault}
+use Rattle.reader.specs.declared.PlanAnswer.{PlanAnswer}
+use Rattle.reader.specs.declared.PlanAnswer.the-variants.{Read, Refused}
+use Rattle.reader.specs.Checking.{planCheck}
+use Rattle.reader.specs.Plans.{Header, planHeader, planStarts, planHeads, planCosts}
+
+-- What the reader returns: number and place, then line 1's five numbers (document 01, "Planning file" and "What a call returns").
+pub record PlanNumbers : Type 0 where
+  pub returned : ℕ
+  pub place : ℕ
+  pub nodes : ℕ
+  pub arcs : ℕ
+  pub ceiling : ℕ
+  pub source : ℕ
+  pub segments : ℕ
+
+-- A file that is read returns 0 with place 0 (document 01, "What a call returns").
+abbrev pub readNumbers : (nodes arcs ceiling source segments : ℕ) → PlanNumbers
+readNumbers nodes arcs ceiling source segments = record {
+  returned = 0;
+  place = 0;
+  nodes = nodes;
+  arcs = arcs;
+  ceiling = ceiling;
+  source = source;
+  segments = segments;
+}
+
+-- All other numbers of a refusal are 0 (document 01, "What a call returns").
+abbrev pub refusedNumbers : (number place : ℕ) → PlanNumbers
+refusedNumbers number place = record { returned = number; place = place; nodes = 0; arcs = 0; ceiling = 0; source = 0; segments = 0 }
+
+-- The numbers of each case of the reader's answer (document 01, "What a call returns").
+abbrev pub planNumbersOf : PlanAnswer → PlanNumbers
+planNumbersOf (Read nodes arcs ceiling source segments) = readNumbers nodes arcs ceiling (source .0) segments
+planNumbersOf (Refused number place) = refusedNumbers number place
+
+-- The case of the reader's answer: the file was read (document 01, "What a call returns").
+abbrev pub wasRead : PlanAnswer → Bool
+wasRead (Read nodes arcs ceiling source segments) = true
+wasRead (Refused number place) = false
+
+-- Every check has passed (document 01, "What a call returns").
+abbrev pub allPassed : Check → Bool
+allPassed Passed = true
+allPassed (Fault number place) = false
+
+-- The numbers given back: those of line 1, or the first fault's (document 01, "Planning file" and "What a call returns").
+abbrev pub planNumbers : Check → Header → PlanNumbers
+planNumbers Passed header = readNumbers (header .nodes) (header .arcs) (header .ceiling) (header .source) (header .segments)
+planNumbers (Fault number place) header = refusedNumbers number place
+
+-- A lent list afterwards: its first words are filled and words past these untouched; a refusal changes none (document 01, "Planning
+-- file" and "What a call returns").
+abbrev pub planWords : Check → (filled words : List ℕ) → List ℕ
+planWords Passed filled words = filled ++ drop (length filled) words
+planWords (Fault number place) filled words = words
+
+-- The reader on a file whose checks in order come to `check`: its answer, and what each lent list holds afterwards (document 01,
+-- "Planning file" and "What a call returns").
+pub record Promised (check : Check) (bytes starts heads costs starts′ heads′ costs′ : List ℕ) (answer : PlanAnswer) : Type 0 where
+  pub read : wasRead answer ≡ allPassed check
+  pub numbers : planNumbersOf answer ≡ planNumbers check (planHeader bytes)
+  pub starts-after : starts′ ≡ planWords check (planStarts bytes) starts
+  pub heads-after : heads′ ≡ planWords check (planHeads bytes) heads
+  pub costs-after : costs′ ≡ planWords check (planCosts bytes) costs
+
+-- The reader on every file (document 01, "Planning file" and "What a call returns").
+abbrev pub PlanPromised : (bytes starts heads costs starts′ heads′ costs′ : List ℕ) → PlanAnswer → Type 0
+PlanPromised bytes starts heads costs starts′ heads′ costs′ answer =
+    Promised (planCheck bytes (length starts) (length heads) (length costs)) bytes starts heads costs starts′ heads′ costs′ answer

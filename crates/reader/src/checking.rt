@@ -1,0 +1,146 @@
+// The first pass over a planning file: every check in order, and no word written (document 01, "What a call returns").
+use crate::ArcLine;
+use crate::lines::arc_line_at;
+use checks::first_of;
+use checks::numbers;
+use types::Check;
+use types::Node;
+ghost use mathlib.Core.Path.{_≡_};
+ghost use mathlib.Core.List.{[], _∷_, _++_};
+ghost use Prim.Native.Nat.{_≤_};
+ghost use lib.Dec.{ltb};
+ghost use lib.ListN.{length, drop};
+ghost use Rattle.checks.specs.Checks.{faultIf, firstFault, lentChecks};
+ghost use Rattle.reader.specs.Checking.{arcChecks, arcsCheck, planLists, headerChecks};
+
+// What line 1 tells and the lists lent for it, then the arcs behind it.
+pub fn plan_check(
+    bytes: &[u8],
+    at: usize,
+    n: u32,
+    arcs: u32,
+    ceiling: u32,
+    source: Node,
+    segments: u32,
+    starts: usize,
+    heads: usize,
+    costs: usize,
+) -> Check
+    requires { ⌜ at ≤ length (now bytes) ⌝ }
+    ensures { λ r. ⌜ r ≡ firstFault (headerChecks n arcs ceiling (source .0) segments starts heads costs
+        ++ (arcsCheck n ceiling arcs 0 0 (drop at (now (bytes .entry))) ∷ [])) ⌝ }
+{
+    let header = header_check(n, arcs, ceiling, source, segments, starts, heads, costs);
+    let Check::Passed = header else {
+        return header;
+    };
+    arcs_check(bytes, at, n, ceiling, arcs)
+}
+
+fn header_check(
+    n: u32,
+    arcs: u32,
+    ceiling: u32,
+    source: Node,
+    segments: u32,
+    starts: usize,
+    heads: usize,
+    costs: usize,
+) -> Check
+    ensures { λ r. ⌜ r ≡ firstFault (headerChecks n arcs ceiling (source .0) segments starts heads costs) ⌝ }
+{
+    let nodes = numbers::nodes_check(n);
+    let count = numbers::head_count_check(arcs as usize);
+    let limit = numbers::ceiling_check(ceiling);
+    let from = numbers::source_check(n, source);
+    let parts = numbers::segments_check(segments);
+    let lists = lists_check(n, arcs, starts, heads, costs);
+    let found = first_of(nodes, count);
+    let found = first_of(found, limit);
+    let found = first_of(found, from);
+    let found = first_of(found, parts);
+    first_of(found, lists)
+}
+
+fn lists_check(n: u32, arcs: u32, starts: usize, heads: usize, costs: usize) -> Check
+    ensures { λ r. ⌜ r ≡ firstFault (lentChecks 0 (planLists n arcs starts heads costs)) ⌝ }
+{
+    let words = arcs as usize;
+    let found = first_of(
+        numbers::lent_check(0, starts, n as usize + 1),
+        numbers::lent_check(1, heads, words),
+    );
+    first_of(found, numbers::lent_check(2, costs, words))
+}
+
+fn arcs_check(bytes: &[u8], at: usize, n: u32, ceiling: u32, arcs: u32) -> Check
+    requires { ⌜ at ≤ length (now bytes) ⌝ }
+    ensures { λ r. ⌜ r ≡ arcsCheck n ceiling arcs 0 0 (drop at (now (bytes .entry))) ⌝ }
+{
+    let count = arcs as usize;
+    let mut line = at;
+    let mut before = 0;
+    let mut i = 0;
+    while i < count {
+        let ArcLine::ArcRead {
+            tail,
+            head,
+            cost,
+            length,
+        } = arc_line_at(bytes, line)
+        else {
+            return Check::Fault {
+                number: 11,
+                place: i + 2,
+            };
+        };
+        let found = arc_check(n, ceiling, i, before, tail, head, cost);
+        let Check::Passed = found else {
+            return found;
+        };
+        line += length;
+        before = tail;
+        i += 1;
+    }
+    left_over_check(bytes, line, count + 2)
+}
+
+// Arc i, where `before` is the tail of the one before it.
+fn arc_check(n: u32, ceiling: u32, i: usize, before: u32, tail: u32, head: u32, cost: u32) -> Check
+    ensures { λ r. ⌜ r ≡ firstFault (arcChecks n ceiling i before tail head cost) ⌝ }
+{
+    if (tail < before) | (tail >= n) {
+        return Check::Fault {
+            number: 12,
+            place: i,
+        };
+    }
+    if head >= n {
+        return Check::Fault {
+            number: 7,
+            place: i,
+        };
+    }
+    if cost > ceiling {
+        return Check::Fault {
+            number: 8,
+            place: i,
+        };
+    }
+    Check::Passed
+}
+
+// Behind the last line no byte is left.
+fn left_over_check(bytes: &[u8], at: usize, line: usize) -> Check
+    requires { ⌜ at ≤ length (now bytes) ⌝ }
+    ensures { λ r. ⌜ r ≡ faultIf 11 line (ltb 0 (length (drop at (now (bytes .entry))))) ⌝ }
+{
+    if at < bytes.len() {
+        Check::Fault {
+            number: 11,
+            place: line,
+        }
+    } else {
+        Check::Passed
+    }
+}

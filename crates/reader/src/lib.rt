@@ -1,0 +1,92 @@
+// The reader of planning files (document 01, "Planning file" and "What a call returns").
+use types::Check;
+use types::Node;
+ghost use Rattle.reader.specs.Promise.{PlanPromised};
+
+mod checking;
+mod filling;
+mod lines;
+
+// An arc's line: its three numbers, and the bytes that it takes.
+pub enum ArcLine {
+    NoArc,
+    ArcRead {
+        tail: u32,
+        head: u32,
+        cost: u32,
+        length: usize,
+    },
+}
+
+// Line 1: its five numbers, and the bytes that it takes.
+pub enum HeaderLine {
+    NoHeader,
+    HeaderRead {
+        nodes: u32,
+        arcs: u32,
+        ceiling: u32,
+        source: u32,
+        segments: u32,
+        length: usize,
+    },
+}
+
+// What the reader gives back.
+pub enum PlanAnswer {
+    Read {
+        nodes: u32,
+        arcs: u32,
+        ceiling: u32,
+        source: Node,
+        segments: u32,
+    },
+    Refused {
+        number: u32,
+        place: usize,
+    },
+}
+
+// Nothing is written before every check has passed.
+pub fn read(bytes: &[u8], starts: &mut [u32], heads: &mut [u32], costs: &mut [u32]) -> PlanAnswer
+    ensures { λ r. ⌜ PlanPromised (now (bytes .entry)) (now (starts .entry)) (now (heads .entry)) (now (costs .entry))
+        (now (starts .exit)) (now (heads .exit)) (now (costs .exit)) r ⌝ }
+{
+    let HeaderLine::HeaderRead {
+        nodes,
+        arcs,
+        ceiling,
+        source,
+        segments,
+        length,
+    } = lines::header_line_at(bytes, 0)
+    else {
+        return PlanAnswer::Refused {
+            number: 11,
+            place: 1,
+        };
+    };
+    let source = Node(source);
+    let check = checking::plan_check(
+        bytes,
+        length,
+        nodes,
+        arcs,
+        ceiling,
+        source,
+        segments,
+        starts.len(),
+        heads.len(),
+        costs.len(),
+    );
+    if let Check::Fault { number, place } = check {
+        return PlanAnswer::Refused { number, place };
+    }
+    filling::fill(bytes, length, nodes, arcs, starts, heads, costs);
+    PlanAnswer::Read {
+        nodes,
+        arcs,
+        ceiling,
+        source,
+        segments,
+    }
+}

@@ -1,0 +1,74 @@
+-- `report::write_nodes` meets its contract: the lines of the first v nodes are written. Assumes nothing.
+use mathlib.Core.Path.{_≡_}
+use Prim.Native.Nat.{ℕ, _+_, _*_, _-_, _≤_, _<_}
+use native.Mathlib.Numerals.{add-one}
+use native.Mathlib.Omega.{arith}
+use lib.ListN.{length}
+use borrow.Author.Needs.{needs}
+use Rattle.fields.specs.Writing.{Writes}
+use Rattle.fields.proofs.Written.{writes-nothing, writes-then, writes-same, writes-length}
+use Rattle.report.specs.Report.{nodeLines}
+use Rattle.report.proofs.Lines.{nodes-next, nodes-most}
+use Rattle.report.proofs.write_nodes.Statement.{statement}
+use Rattle.report.proofs.write_nodes.Tie as tie
+
+abbrev Inv-loop : tie.InvT-loop
+Inv-loop buffer₀ at nodes distances parents next₀ v₀ buffer next v =
+    (v ≤ nodes) × Writes at (nodeLines v distances parents) buffer₀ buffer next
+
+abbrev μ-loop : tie.MeasureT-loop
+μ-loop buffer₀ at nodes distances parents next₀ v₀ buffer next v = nodes - v
+
+loop-holds : tie.Need-loop-holds Inv-loop μ-loop
+unfolding nodeLines
+loop-holds c = (search needs, writes-nothing _ _ (omega arith))
+
+write-node-requires : tie.Need-write-node-requires Inv-loop μ-loop
+write-node-requires c κs =
+    let loop = c .before .before .before .before .loop in
+    let first = c .before .before .before .before .before .before .before .before in
+    omega (
+      arith,
+      nodes-most (loop .v) (first .args .distances .now) (first .args .parents .now),
+      loop .inv .1 .behind,
+      writes-length (loop .inv .1),
+      first .pre .0,
+      c .before .before .before .loop-test .taken,
+    )
+
+loop-again : tie.Need-loop-again Inv-loop μ-loop
+loop-again c =
+    let loop = c .before .before .before .before .before .before .before .loop in
+    let first = c .before .before .before .before .before .before .before .before .before .before .before in (
+      search needs,
+      rw (add-one (loop .v))
+          (writes-same (nodes-next (loop .v) (first .args .distances .now) (first .args .parents .now))
+          (writes-then (loop .inv .1) (c .before .before .write-node .ensures))),
+    )
+
+same-length : tie.Need-same-length Inv-loop μ-loop
+same-length c = writes-length (c .before .loop .inv .1)
+
+returns : tie.Need-returns Inv-loop μ-loop
+returns c =
+    let all : c .before .loop .v ≡ c .before .before .before .before .before .args .nodes = omega arith in
+    rw all at (c .before .loop .inv .1)
+
+pub write-nodes-spec : {M : Type 1} → statement M
+write-nodes-spec =
+    tie.close
+    (tie.spec
+    Inv-loop
+    μ-loop
+    loop-holds
+    (λ c. search needs)
+    (λ c. search needs)
+    (λ c. search needs)
+    (λ c. search needs)
+    (λ c. search needs)
+    write-node-requires
+    (λ c. search needs)
+    (λ c. search needs)
+    loop-again
+    same-length
+    returns)
