@@ -2,7 +2,7 @@
 use mathlib.Core.Path.{_≡_, refl, sym, _∙_, ap, ap₂}
 use mathlib.Core.Bool.{Bool, true, false, cond, not, _&&_, _||_, false≢true}
 use mathlib.Core.List.{List, [], _∷_}
-use Prim.Native.Nat.{ℕ, zero, suc, _+_, _≤_, _<_}
+use Prim.Native.Nat.{ℕ, _+_, _≤_, _<_}
 use native.Mathlib.Nat.{add-zero}
 use native.Mathlib.Numerals.{add-one}
 use native.Mathlib.Omega.{arith}
@@ -10,9 +10,8 @@ use lib.Dec.{leb, eqb}
 use lib.ListN.{length, getD, drop}
 use lib.Seq.{getD-drop}
 use borrow.Author.Tests.{lt-leb, leb-true, leb-false}
-use Rattle.fields.specs.declared.Field.{Field}
 use Rattle.fields.specs.declared.Field.the-variants.{NoField, Value}
-use Rattle.fields.specs.Fields.{isDigit, digits, numberFrom, isField, byteAt, field}
+use Rattle.fields.specs.Fields.{isDigit, digits, isField, byteAt, field}
 use Rattle.fields.specs.Reading.{DigitsRead}
 
 -- the first digit is the first byte
@@ -42,10 +41,10 @@ and-none : (a b c : Bool) → (a && false && b && c) ≡ false
 and-none true b c = refl
 and-none false b c = refl
 
-and-second : (a b c d : Bool) → (a && b && c && d) ≡ true → b ≡ true
-and-second true true c d e = refl
-and-second true false c d e = e
-and-second false b c d e = absurd (false≢true e)
+second-of : (a b c d : Bool) → (a && b && c && d) ≡ true → b ≡ true
+second-of true true c d e = refl
+second-of true false c d e = e
+second-of false b c d e = absurd (false≢true e)
 
 and-same : (a b c c′ d : Bool) → (a ≡ true → c ≡ c′) → (a && b && c && d) ≡ (a && b && c′ && d)
 and-same true b c c′ d h = rw (h refl)
@@ -82,7 +81,7 @@ module _ {bytes : List ℕ} {count value : ℕ} (read : DigitsRead bytes count v
   pub formed-field : formed bytes count end ≡ true → Value value (count + 1) ≡ field end bytes
   unfolding field
   formed-field e =
-      let l = leb-true count 7 (and-second (leb 1 count) (leb count 7) (eqb count 1 || not (eqb (byteAt bytes 0) 48)) (eqb (byteAt bytes count) end) e) in
+      let l = leb-true count 7 (second-of (leb 1 count) (leb count 7) (eqb count 1 || not (eqb (byteAt bytes 0) 48)) (eqb (byteAt bytes count) end) e) in
       rw (sym same ∙ e, read .spelled l, read .few l, add-one)
 
   pub formless-field : formed bytes count end ≡ false → NoField ≡ field end bytes

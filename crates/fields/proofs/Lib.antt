@@ -4,3 +4,4 @@ pub mod Lines
 pub mod Decimals
 pub mod Parsing
 pub mod Written
+pub mod LineReading

@@ -1,6 +1,6 @@
 -- Fields one behind the other, by their places in the bytes. Assumes nothing.
-use mathlib.Core.Path.{_≡_, refl, sym, _∙_, ap}
-use mathlib.Core.Bool.{Bool, true, false, cond, _&&_, false≢true}
+use mathlib.Core.Path.{_≡_, refl, _∙_, ap}
+use mathlib.Core.Bool.{Bool, true, false, cond, _&&_}
 use mathlib.Core.List.{List, [], _∷_, _++_}
 use Prim.Native.Nat.{ℕ, zero, suc, _+_, _-_, _≤_, _<_}
 use native.Mathlib.Omega.{arith}
@@ -11,10 +11,7 @@ use borrow.Author.Tests.{ltb-true, ltb-false, eqb-true}
 use Rattle.fields.specs.declared.Field.{Field}
 use Rattle.fields.specs.declared.Field.the-variants.{NoField, Value}
 use Rattle.fields.specs.Fields.{digits, numberFrom, isField, byteAt, field, Line, NoLine, Numbers, joined, followed, fields, lineFeed, lineEnds, line}
-
-and-second : (a b : Bool) → (a && b) ≡ true → b ≡ true
-and-second true b e = e
-and-second false b e = absurd (false≢true e)
+use Rattle.fields.proofs.Digits.{and-second}
 
 -- a byte stands within the bytes
 byte-within : (bytes : List ℕ) (i byte : ℕ) → byte < 256 → byteAt bytes i ≡ byte → i < length bytes

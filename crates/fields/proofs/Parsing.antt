@@ -141,7 +141,7 @@ separators-apart : (separator count : ℕ) → isDigit separator ≡ false → N
 separators-apart separator zero e = (refl, tt)
 separators-apart separator (suc count) e = (e, separators-apart separator count e)
 
-ends-length : (separator count : ℕ) → 1 ≤ count → length (lineEnds separator count) ≡ count
+pub ends-length : (separator count : ℕ) → 1 ≤ count → length (lineEnds separator count) ≡ count
 ends-length separator count l = omega (
   arith,
   length-append (replicate (count - 1) separator) (lineFeed ∷ []),

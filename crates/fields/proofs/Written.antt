@@ -79,3 +79,7 @@ unfolding written
 writes-front {next} {bytes} {before} {after} h =
     let last : next ≡ length bytes = omega arith in
     rw (h .told, last) (take-at bytes _ (length bytes) refl)
+
+-- What is written lies within the buffer.
+pub writes-inside : {at next : ℕ} {bytes before after : List ℕ} → Writes at bytes before after next → next ≤ length after
+writes-inside w = omega (arith, w .behind, w .fits, writes-length w)

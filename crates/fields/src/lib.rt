@@ -7,3 +7,9 @@ pub enum Field {
     NoField,
     Value { value: u32, length: usize },
 }
+
+// The number of bytes that a line takes.
+pub enum LineRead {
+    Missing,
+    Taken { length: usize },
+}

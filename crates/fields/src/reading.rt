@@ -1,10 +1,11 @@
-// A field read from bytes (document 01, "Planning file").
+// Fields and lines read from bytes (document 01, "Planning file").
 use crate::Field;
+use crate::LineRead;
 ghost use mathlib.Core.Path.{_≡_};
-ghost use Prim.Native.Nat.{_≤_};
-ghost use lib.ListN.{length, drop};
-ghost use Rattle.fields.specs.Fields.{field, isDigit, byteAt};
-ghost use Rattle.fields.specs.Reading.{DigitsRead};
+ghost use Prim.Native.Nat.{_≤_, _<_};
+ghost use lib.ListN.{length, getD, drop};
+ghost use Rattle.fields.specs.Fields.{field, isDigit, byteAt, lineEnds, line};
+ghost use Rattle.fields.specs.Reading.{DigitsRead, lineTaken, fieldsInto};
 
 // The digits at a place, of which one more than a field has are enough to refuse it, and the number that they spell.
 struct Digits {
@@ -29,6 +30,38 @@ pub fn field_at(bytes: &[u8], at: usize, end: u8) -> Field
     } else {
         Field::NoField
     }
+}
+
+// The line at a place of the bytes, of as many fields as there are words for their values. Where it is ill-formed, the values of the fields
+// before the fault are written.
+pub fn line_at(bytes: &[u8], at: usize, separator: u8, values: &mut [u32]) -> LineRead
+    requires { ⌜ at ≤ length (now bytes) ⌝ }
+    requires { ⌜ 1 ≤ length (now values) ⌝ }
+    ensures answer { λ r. ⌜ r ≡ lineTaken (line separator (length (now (values .entry))) (drop at (now (bytes .entry)))) ⌝ }
+    ensures list { λ _. ⌜ now (values .exit) ≡ fieldsInto (lineEnds separator (length (now (values .entry)))) (drop at (now (bytes .entry))) (now (values .entry)) ⌝ }
+{
+    let count = values.len();
+    let mut next = at;
+    let mut i = 0;
+    while i < count {
+        let end = end_of(i, count, separator);
+        let Field::Value { value, length } = field_at(bytes, next, end) else {
+            return LineRead::Missing;
+        };
+        values[i] = value;
+        next += length;
+        i += 1;
+    }
+    LineRead::Taken { length: next - at }
+}
+
+// What ends field i of so many.
+fn end_of(i: usize, count: usize, separator: u8) -> u8
+    requires { ⌜ i < count ⌝ }
+    ensures end { λ r. ⌜ r ≡ getD (lineEnds separator count) i 0 ⌝ }
+    ensures byte { λ r. ⌜ r < 256 ⌝ }
+{
+    if i + 1 < count { separator } else { 10 }
 }
 
 fn digits_at(bytes: &[u8], at: usize) -> Digits

@@ -19,7 +19,7 @@ use Rattle.checks.specs.Checks.{firstFault, lentChecks, oneLevelWork, twoLevelW
 use Rattle.checks.proofs.Order.{AllPass, none, more, passed-all}
 use Rattle.checks.proofs.Sizes.{passed-lent}
 use Rattle.fields.specs.Writing.{Writes}
-use Rattle.fields.proofs.Written.{writes-length}
+use Rattle.fields.proofs.Written.{writes-inside}
 use Rattle.reader.specs.declared.PlanAnswer.{PlanAnswer}
 use Rattle.reader.specs.declared.PlanAnswer.the-variants.{Read, Refused}
 use Rattle.reader.specs.declared.HeaderLine.{HeaderLine}
@@ -28,7 +28,8 @@ use Rattle.reader.specs.Lines.{headerLine}
 use Rattle.reader.specs.Checking.{headerChecks, arcsCheck, headerLineCheck, planCheck}
 use Rattle.reader.specs.Plans.{Header, PlanArc, headerNumbers, planHeader, planArcs, planStarts, planHeads, planCosts}
 use Rattle.reader.specs.Promise.{PlanNumbers, planNumbers, planNumbersOf, planWords, wasRead, allPassed, PlanPromised}
-use Rattle.reader.proofs.Runnable.{ListsFit, read-fits, read-runnable, runs-one-level, runs-two-level}
+use Rattle.reader.proofs.Runnable.{read-runnable, runs-one-level, runs-two-level}
+use Rattle.reader.proofs.Runnable as reading
 use Rattle.report.specs.Report.{refusedText}
 use Rattle.planning.specs.Planning.{mostBytes, planningCheck, PlanLists, planLists, Answered, PlanningPromised, Lends, Runnable, BothRun}
 
@@ -132,8 +133,8 @@ module _ (bytes : List ℕ) (short : length bytes ≤ 65536) (L : PlanLists) {ou
         ap (take (H .arcs)) (P .costs-after ∙ ap (λ (k : Check). planWords k (planCosts bytes) (L .costs)) passed)
         ∙ take-at (planCosts bytes) (drop (length (planCosts bytes)) (L .costs)) (H .arcs) (read-runnable bytes _ _ _ passed .costs-count)
 
-    fit : ListsFit H (length (L .starts)) (length (L .heads)) (length (L .costs))
-    fit = read-fits bytes _ _ _ passed
+    fit : reading.Runnable H (planArcs bytes) (length (L .starts)) (length (L .heads)) (length (L .costs))
+    fit = read-runnable bytes _ _ _ passed
 
     pub read-map : length starts′ ≡ length (L .starts) → length heads′ ≡ length (L .heads) → length costs′ ≡ length (L .costs) → Runnable n m C (source .0) K between
     read-map s h c =
@@ -178,4 +179,4 @@ module _ (bytes : List ℕ) (short : length bytes ≤ 65536) (L : PlanLists) {ou
 -- What is written lies within the output.
 pub answer-within : {check : Check} {header : Header} {arcs : List PlanArc} {l l′ : PlanLists} {output output′ : List ℕ} {written : ℕ}
     → Answered check header arcs l l′ output output′ written → written ≤ length output′
-answer-within A = omega (arith, A .text .behind, A .text .fits, writes-length (A .text))
+answer-within A = writes-inside (A .text)

@@ -19,14 +19,17 @@ use Rattle.reader.specs.Plans.{PlanArc, Header, headerNumbers, planHeade
 use Rattle.reader.proofs.Arcs.{in-order, starts-length, start-at, below-none, below-rises, below-all}
 use Rattle.reader.proofs.Shown.{ArcsShown, arcs-shown}
 
--- a header and arcs that both runs can be made on
-pub record Runnable (header : Header) (arcs : List PlanArc) : Type 0 where
+-- a header, its arcs and the words of the lists lent for them, with which both runs can be made
+pub record Runnable (header : Header) (arcs : List PlanArc) (starts heads costs : ℕ) : Type 0 where
   pub valid : Valid (mapOf (header .nodes) (startsOf (header .nodes) arcs) (headsOf (header .nodes) arcs) (costsOf (header .nodes) arcs))
       (header .ceiling) (header .source)
   pub heads-count : length (headsOf (header .nodes) arcs) ≡ header .arcs
   pub costs-count : length (costsOf (header .nodes) arcs) ≡ header .arcs
   pub segments-low : 2 ≤ header .segments
   pub segments-high : header .segments ≤ 64
+  pub starts-fit : header .nodes + 1 ≤ starts
+  pub heads-fit : header .arcs ≤ heads
+  pub costs-fit : header .arcs ≤ costs
 
 -- ---- the map of arcs that pass
 
@@ -67,54 +70,33 @@ module _ (n C m source : ℕ) (arcs : List PlanArc) (shown : ArcsShown n C m 0 a
 module _ (bytes : List ℕ) (starts heads costs : ℕ) where
   header-runnable : (n m C source K taken : ℕ)
       → AllPass (headerChecks n m C source K starts heads costs ++ (arcsCheck n C m 0 0 (drop taken bytes) ∷ []))
-      → Runnable (headerNumbers (HeaderRead n m C source K taken)) (linesArcs m (drop taken bytes))
+      → Runnable (headerNumbers (HeaderRead n m C source K taken)) (linesArcs m (drop taken bytes)) starts heads costs
   unfolding headerChecks lentChecks
   header-runnable n m C source K taken (more one (more four (more two (more three (more nine (more first (more second (more third (more arcs none))))))))) =
       let nodes = passed-range 1 n 1 4096 one in
       let segments = passed-range 9 K 2 64 nine in
+      let read = linesArcs m (drop taken bytes) in
+      let shown = arcs-shown n C m 0 0 (drop taken bytes) arcs in
       record {
         valid =
-            map-valid n C m source (linesArcs m (drop taken bytes)) (arcs-shown n C m 0 0 (drop taken bytes) arcs) (nodes .0) (nodes .1)
-            (passed-heads m four) (passed-ceiling C two) (passed-source n source three);
-        heads-count = heads-length n C m source (linesArcs m (drop taken bytes)) (arcs-shown n C m 0 0 (drop taken bytes) arcs);
-        costs-count = costs-length n C m source (linesArcs m (drop taken bytes)) (arcs-shown n C m 0 0 (drop taken bytes) arcs);
+            map-valid n C m source read shown (nodes .0) (nodes .1) (passed-heads m four) (passed-ceiling C two) (passed-source n source three);
+        heads-count = heads-length n C m source read shown;
+        costs-count = costs-length n C m source read shown;
         segments-low = segments .0;
         segments-high = segments .1;
+        starts-fit = passed-lent 0 starts (n + 1) first;
+        heads-fit = passed-lent 1 heads m second;
+        costs-fit = passed-lent 2 costs m third;
       }
 
   line-runnable : (line : HeaderLine) → headerLineCheck line bytes starts heads costs ≡ Passed
-      → Runnable (headerNumbers line) (linesArcs (headerNumbers line .arcs) (drop (headerNumbers line .length) bytes))
+      → Runnable (headerNumbers line) (linesArcs (headerNumbers line .arcs) (drop (headerNumbers line .length) bytes)) starts heads costs
   line-runnable NoHeader e = absurd (let z : _≡_ {A = ℕ} 0 1 = cc in omega arith)
   line-runnable (HeaderRead n m C source K taken) e = header-runnable n m C source K taken (passed-all _ e)
 
-  pub read-runnable : planCheck bytes starts heads costs ≡ Passed → Runnable (planHeader bytes) (planArcs bytes)
+  pub read-runnable : planCheck bytes starts heads costs ≡ Passed → Runnable (planHeader bytes) (planArcs bytes) starts heads costs
   unfolding planCheck
   read-runnable e = line-runnable (headerLine bytes) e
-
--- the lists lent to the reader have the words that the file needs
-pub record ListsFit (header : Header) (starts heads costs : ℕ) : Type 0 where
-  pub starts-fit : header .nodes + 1 ≤ starts
-  pub heads-fit : header .arcs ≤ heads
-  pub costs-fit : header .arcs ≤ costs
-
-module _ (bytes : List ℕ) (starts heads costs : ℕ) where
-  header-fits : (n m C source K taken : ℕ)
-      → AllPass (headerChecks n m C source K starts heads costs ++ (arcsCheck n C m 0 0 (drop taken bytes) ∷ []))
-      → ListsFit (headerNumbers (HeaderRead n m C source K taken)) starts heads costs
-  unfolding headerChecks lentChecks
-  header-fits n m C source K taken (more one (more four (more two (more three (more nine (more first (more second (more third (more arcs none))))))))) = record {
-    starts-fit = passed-lent 0 starts (n + 1) first;
-    heads-fit = passed-lent 1 heads m second;
-    costs-fit = passed-lent 2 costs m third;
-  }
-
-  line-fits : (line : HeaderLine) → headerLineCheck line bytes starts heads costs ≡ Passed → ListsFit (headerNumbers line) starts heads costs
-  line-fits NoHeader e = absurd (let z : _≡_ {A = ℕ} 0 1 = cc in omega arith)
-  line-fits (HeaderRead n m C source K taken) e = header-fits n m C source K taken (passed-all _ e)
-
-  pub read-fits : planCheck bytes starts heads costs ≡ Passed → ListsFit (planHeader bytes) starts heads costs
-  unfolding planCheck
-  read-fits e = line-fits (headerLine bytes) e
 
 -- ---- the checks of the runs
 

@@ -24,6 +24,6 @@ pub record Filled (n : ℕ) (arcs : List PlanArc) (starts heads costs starts′ 
   pub heads-filled : heads′ ≡ planWords Passed (headsOf n arcs) heads
   pub costs-filled : costs′ ≡ planWords Passed (costsOf n arcs) costs
 
--- The words from one place up to but not including another are set.
+-- The words from one place up to but not including another are set (document 01, "Planning file").
 abbrev pub between : (words : List ℕ) → (from to word : ℕ) → List ℕ
 between words from to word = take from words ++ (replicate (to - from) word ++ drop to words)

@@ -19,7 +19,7 @@ pub struct HeapNumbers {
 }
 
 // The last two fields of a line.
-fn put_two(buffer: &mut [u8], at: usize, first: u64, second: u64) -> usize
+pub fn put_two(buffer: &mut [u8], at: usize, first: u64, second: u64) -> usize
     requires { ⌜ at + 42 ≤ length (now buffer) ⌝ }
     ensures { λ r. ⌜ Writes at (renderLine comma (first ∷ second ∷ [])) (now (buffer .entry)) (now (buffer .exit)) r ⌝ }
 {
@@ -28,7 +28,7 @@ fn put_two(buffer: &mut [u8], at: usize, first: u64, second: u64) -> usize
 }
 
 // A word, and the comma behind it.
-fn put_word(buffer: &mut [u8], at: usize, word: &[u8]) -> usize
+pub fn put_word(buffer: &mut [u8], at: usize, word: &[u8]) -> usize
     requires { ⌜ at + length (now word) + 1 ≤ length (now buffer) ⌝ }
     ensures { λ r. ⌜ Writes at (ended (now (word .entry)) comma) (now (buffer .entry)) (now (buffer .exit)) r ⌝ }
 {

@@ -1,18 +1,16 @@
 -- `fields::reading::digits_at` meets its contract: the digits counted so far are followed by the rest. Assumes nothing.
-use mathlib.Core.Path.{_≡_, refl, sym, _∙_, ap, ap₂}
-use mathlib.Core.Bool.{Bool, true, false, not, _||_}
-use Prim.Native.Nat.{ℕ, _+_, _-_, _*_, _≤_}
+use mathlib.Core.Path.{_≡_, sym, _∙_, ap}
+use mathlib.Core.Bool.{Bool, true, not, _||_}
+use mathlib.Core.List.{List}
+use Prim.Native.Nat.{ℕ, _-_}
 use native.Mathlib.Omega.{arith}
 use lib.Dec.{eqb}
-use lib.ListN.{length, drop, length-drop}
+use lib.ListN.{drop, length-drop}
 use lib.Seq.{getD-drop}
-use borrow.Author.Needs.{needs}
 use Rattle.fields.specs.Fields.{isDigit, byteAt}
 use Rattle.fields.proofs.Digits.{Counted, counted-start, counted-next, counted-stop, goes-on, small, digit-low, digit-high}
 use Rattle.fields.proofs.reading.digits_at.Statement.{statement}
 use Rattle.fields.proofs.reading.digits_at.Tie as tie
-use Rattle.fields.proofs.reading.digits_at.Reads as reads
-use Rattle.fields.proofs.reading.digits_at.Lts as lts
 
 abbrev Inv-loop : tie.InvT-loop
 Inv-loop bytes at count₀ value₀ count value = Counted (drop at bytes) count value
@@ -26,23 +24,37 @@ loop-holds c = counted-start _
 add-byte-at : tie.Need-add-byte-at Inv-loop μ-loop
 add-byte-at c = omega (arith, c .loop .inv .within, length-drop (c .before .before .args .at) (c .before .before .args .bytes .now))
 
--- the byte read last is the next one of the bytes at the place
-next : (c : tie.After-is-digit Inv-loop μ-loop)
-    → c .before .byte-at .result ≡ byteAt (drop (c .before .before .before .before .args .at) (c .before .before .before .before .args .bytes .now)) (c .before .before .loop .count)
-next c = c .before .byte-at .ensures ∙ sym (getD-drop (c .before .before .before .before .args .at) (c .before .before .before .before .args .bytes .now) (c .before .before .loop .count) 256)
+-- ---- the byte read last
+
+abbrev counted : tie.After-is-digit Inv-loop μ-loop → tie.At-loop Inv-loop μ-loop
+counted c = c .before .before
+
+abbrev bytesAt : tie.After-is-digit Inv-loop μ-loop → List ℕ
+bytesAt c = drop (counted c .before .before .args .at) (counted c .before .before .args .bytes .now)
+
+-- it is the next one of the bytes at the place
+next : (c : tie.After-is-digit Inv-loop μ-loop) → c .before .byte-at .result ≡ byteAt (bytesAt c) (counted c .loop .count)
+next c =
+    let s = counted c .before .before in
+    c .before .byte-at .ensures ∙ sym (getD-drop (s .args .at) (s .args .bytes .now) (counted c .loop .count) 256)
+
+abbrev stops : (count : ℕ) → Bool → Bool
+stops count digit = eqb count 8 || not digit
 
 -- whether the loop stops, in the words of the definition
 test : (c : tie.After-is-digit Inv-loop μ-loop)
-    → (eqb (c .before .before .loop .count) 8 || not (c .is-digit .result))
-    ≡ (eqb (c .before .before .loop .count) 8 || not (isDigit (byteAt (drop (c .before .before .before .before .args .at) (c .before .before .before .before .args .bytes .now)) (c .before .before .loop .count))))
-test c = ap (λ (t : Bool). eqb (c .before .before .loop .count) 8 || not t) (c .is-digit .ensures ∙ ap isDigit (next c))
+    → stops (counted c .loop .count) (c .is-digit .result) ≡ stops (counted c .loop .count) (isDigit (byteAt (bytesAt c) (counted c .loop .count)))
+test c = ap (stops (counted c .loop .count)) (c .is-digit .ensures ∙ ap isDigit (next c))
 
 returns : tie.Need-returns Inv-loop μ-loop
-returns c = counted-stop (c .before .before .before .loop .inv) (sym (test (c .before)) ∙ c .if1 .taken)
+returns c = counted-stop (counted (c .before) .loop .inv) (sym (test (c .before)) ∙ c .if1 .taken)
 
 -- the byte is a digit, and fewer than 8 were read
-on : (c : tie.Else1 Inv-loop μ-loop) → (c .before .before .before .loop .count ≡ 8 → ⊥) × (isDigit (c .before .before .byte-at .result) ≡ true)
-on c = goes-on (c .before .before .before .loop .count) (c .before .before .byte-at .result) (ap (λ (t : Bool). eqb (c .before .before .before .loop .count) 8 || not t) (sym (c .before .is-digit .ensures)) ∙ c .if1 .left)
+on : (c : tie.Else1 Inv-loop μ-loop)
+    → (counted (c .before) .loop .count ≡ 8 → ⊥) × (isDigit (c .before .before .byte-at .result) ≡ true)
+on c =
+    let count = counted (c .before) .loop .count in
+    goes-on count (c .before .before .byte-at .result) (ap (stops count) (sym (c .before .is-digit .ensures)) ∙ c .if1 .left)
 
 add-value : tie.Need-add-value Inv-loop μ-loop
 add-value c =

@@ -6,25 +6,33 @@ use borrow.Author.Needs.{needs}
 use Rattle.fields.proofs.Formed.{tested, formed, formed-at, formed-field, formless-field}
 use Rattle.fields.proofs.reading.field_at.Statement.{statement}
 use Rattle.fields.proofs.reading.field_at.Tie as tie
-use Rattle.fields.proofs.reading.field_at.Reads as reads
-use Rattle.fields.proofs.reading.field_at.Lts as lts
 
 add-byte-at : tie.Need-add-byte-at
 add-byte-at c =
     let s = c .before .before .before in
     omega (arith, c .before .digits-at .ensures .within, length-drop (s .args .at) (s .args .bytes .now))
 
+abbrev entry : tie.After-byte-at2 → tie.Start
+entry c = c .before .before .before .before
+
+-- the tests of the code are those of the definition
 test : (c : tie.After-byte-at2)
-    → tested (c .before .before .digits-at .result .count) (c .before .byte-at .result) (c .byte-at2 .result) (c .before .before .before .before .args .end)
-    ≡ formed (drop (c .before .before .before .before .args .at) (c .before .before .before .before .args .bytes .now))
-    (c .before .before .digits-at .result .count) (c .before .before .before .before .args .end)
-test c = formed-at (c .before .before .before .before .args .bytes .now) _ _ _ _ _ (c .before .byte-at .ensures) (c .byte-at2 .ensures)
+    → tested (c .before .before .digits-at .result .count) (c .before .byte-at .result) (c .byte-at2 .result) (entry c .args .end)
+    ≡ formed (drop (entry c .args .at) (entry c .args .bytes .now)) (c .before .before .digits-at .result .count) (entry c .args .end)
+test c = formed-at (entry c .args .bytes .now) _ _ _ _ _ (c .before .byte-at .ensures) (c .byte-at2 .ensures)
+
+add-t17 : tie.Need-add-t17
+add-t17 c =
+    let s = entry (c .before) in
+    omega (arith, c .before .before .before .digits-at .ensures .within, length-drop (s .args .at) (s .args .bytes .now))
 
 returns : tie.Need-returns
-returns c = formed-field (c .before .before .before .digits-at .ensures) (c .before .before .before .before .before .args .end) (sym (test (c .before)) ∙ c .if1 .taken)
+returns c =
+    formed-field (c .before .before .before .digits-at .ensures) (entry (c .before) .args .end) (sym (test (c .before)) ∙ c .if1 .taken)
 
 returns-2 : tie.Need-returns-2
-returns-2 c = formless-field (c .before .before .before .digits-at .ensures) (c .before .before .before .before .before .args .end) (sym (test (c .before)) ∙ c .if1 .left)
+returns-2 c =
+    formless-field (c .before .before .before .digits-at .ensures) (entry (c .before) .args .end) (sym (test (c .before)) ∙ c .if1 .left)
 
 pub field-at-spec : {M : Type 1} → statement M
 field-at-spec =
@@ -34,6 +42,6 @@ field-at-spec =
     (λ c κs. search needs)
     add-byte-at
     (λ c κs. search needs)
-    (λ c. omega (arith, c .before .before .before .digits-at .ensures .within, length-drop (c .before .before .before .before .before .args .at) (c .before .before .before .before .before .args .bytes .now)))
+    add-t17
     returns
     returns-2)

@@ -19,72 +19,90 @@ abbrev entry : tie.After-known-told → tie.Start
 entry c = c .before .before .before .before .before
 
 nodes-read : (c : tie.After-known-told)
-    → field comma (drop (entry c .args .at) (entry c .args .bytes .now)) ≡ Value (c .before .nodes .given .0 .0) (c .before .nodes .given .0 .1 .0)
+    → field comma (drop (entry c .args .at) (entry c .args .bytes .now))
+    ≡ Value (c .before .nodes .given .0 .0) (c .before .nodes .given .0 .1 .0)
 nodes-read c = sym (c .before .before .before .field-at .ensures) ∙ c .before .nodes .given .1
 
 abbrev behind-nodes : tie.After-known-told → ℕ
 behind-nodes c = entry c .args .at + c .before .nodes .given .0 .1 .0
 
 nodes-within : (c : tie.After-known-told) → behind-nodes c ≤ length (entry c .args .bytes .now)
-nodes-within c = behind-within (entry c .args .bytes .now) (entry c .args .at) comma (omega arith) (entry c .pre) (nodes-read c)
+nodes-within c =
+    behind-within (entry c .args .bytes .now) (entry c .args .at)
+    comma (omega arith) (entry c .pre) (nodes-read c)
 
 abbrev nodes-told : tie.After-known-told2 → tie.After-known-told
 nodes-told c = c .before .before .before .before
 
 arcs-read : (c : tie.After-known-told2)
-    → field comma (drop (behind-nodes (nodes-told c)) (entry (nodes-told c) .args .bytes .now)) ≡ Value (c .before .arcs .given .0 .0) (c .before .arcs .given .0 .1 .0)
+    → field comma (drop (behind-nodes (nodes-told c)) (entry (nodes-told c) .args .bytes .now))
+    ≡ Value (c .before .arcs .given .0 .0) (c .before .arcs .given .0 .1 .0)
 arcs-read c = sym (c .before .before .before .field-at2 .ensures) ∙ c .before .arcs .given .1
 
 abbrev behind-arcs : tie.After-known-told2 → ℕ
 behind-arcs c = behind-nodes (nodes-told c) + c .before .arcs .given .0 .1 .0
 
 arcs-within : (c : tie.After-known-told2) → behind-arcs c ≤ length (entry (nodes-told c) .args .bytes .now)
-arcs-within c = behind-within (entry (nodes-told c) .args .bytes .now) (behind-nodes (nodes-told c)) comma (omega arith) (nodes-within (nodes-told c)) (arcs-read c)
+arcs-within c =
+    behind-within (entry (nodes-told c) .args .bytes .now) (behind-nodes (nodes-told c))
+    comma (omega arith) (nodes-within (nodes-told c)) (arcs-read c)
 
 abbrev arcs-told : tie.After-known-told3 → tie.After-known-told2
 arcs-told c = c .before .before .before .before
 
 ceiling-read : (c : tie.After-known-told3)
-    → field comma (drop (behind-arcs (arcs-told c)) (entry (nodes-told (arcs-told c)) .args .bytes .now)) ≡ Value (c .before .ceiling .given .0 .0) (c .before .ceiling .given .0 .1 .0)
+    → field comma (drop (behind-arcs (arcs-told c)) (entry (nodes-told (arcs-told c)) .args .bytes .now))
+    ≡ Value (c .before .ceiling .given .0 .0) (c .before .ceiling .given .0 .1 .0)
 ceiling-read c = sym (c .before .before .before .field-at3 .ensures) ∙ c .before .ceiling .given .1
 
 abbrev behind-ceiling : tie.After-known-told3 → ℕ
 behind-ceiling c = behind-arcs (arcs-told c) + c .before .ceiling .given .0 .1 .0
 
 ceiling-within : (c : tie.After-known-told3) → behind-ceiling c ≤ length (entry (nodes-told (arcs-told c)) .args .bytes .now)
-ceiling-within c = behind-within (entry (nodes-told (arcs-told c)) .args .bytes .now) (behind-arcs (arcs-told c)) comma (omega arith) (arcs-within (arcs-told c)) (ceiling-read c)
+ceiling-within c =
+    behind-within (entry (nodes-told (arcs-told c)) .args .bytes .now) (behind-arcs (arcs-told c))
+    comma (omega arith) (arcs-within (arcs-told c)) (ceiling-read c)
 
 abbrev ceiling-told : tie.After-known-told4 → tie.After-known-told3
 ceiling-told c = c .before .before .before .before
 
 source-read : (c : tie.After-known-told4)
-    → field comma (drop (behind-ceiling (ceiling-told c)) (entry (nodes-told (arcs-told (ceiling-told c))) .args .bytes .now)) ≡ Value (c .before .source .given .0 .0) (c .before .source .given .0 .1 .0)
+    → field comma (drop (behind-ceiling (ceiling-told c)) (entry (nodes-told (arcs-told (ceiling-told c))) .args .bytes .now))
+    ≡ Value (c .before .source .given .0 .0) (c .before .source .given .0 .1 .0)
 source-read c = sym (c .before .before .before .field-at4 .ensures) ∙ c .before .source .given .1
 
 abbrev behind-source : tie.After-known-told4 → ℕ
 behind-source c = behind-ceiling (ceiling-told c) + c .before .source .given .0 .1 .0
 
 source-within : (c : tie.After-known-told4) → behind-source c ≤ length (entry (nodes-told (arcs-told (ceiling-told c))) .args .bytes .now)
-source-within c = behind-within (entry (nodes-told (arcs-told (ceiling-told c))) .args .bytes .now) (behind-ceiling (ceiling-told c)) comma (omega arith) (ceiling-within (ceiling-told c)) (source-read c)
+source-within c =
+    behind-within (entry (nodes-told (arcs-told (ceiling-told c))) .args .bytes .now) (behind-ceiling (ceiling-told c))
+    comma (omega arith) (ceiling-within (ceiling-told c)) (source-read c)
 
 abbrev source-told : tie.After-known-told5 → tie.After-known-told4
 source-told c = c .before .before .before .before
 
 segments-read : (c : tie.After-known-told5)
-    → field lineFeed (drop (behind-source (source-told c)) (entry (nodes-told (arcs-told (ceiling-told (source-told c)))) .args .bytes .now)) ≡ Value (c .before .segments .given .0 .0) (c .before .segments .given .0 .1 .0)
+    → field lineFeed (drop (behind-source (source-told c)) (entry (nodes-told (arcs-told (ceiling-told (source-told c)))) .args .bytes .now))
+    ≡ Value (c .before .segments .given .0 .0) (c .before .segments .given .0 .1 .0)
 segments-read c = sym (c .before .before .before .field-at5 .ensures) ∙ c .before .segments .given .1
 
 abbrev behind-segments : tie.After-known-told5 → ℕ
 behind-segments c = behind-source (source-told c) + c .before .segments .given .0 .1 .0
 
 segments-within : (c : tie.After-known-told5) → behind-segments c ≤ length (entry (nodes-told (arcs-told (ceiling-told (source-told c)))) .args .bytes .now)
-segments-within c = behind-within (entry (nodes-told (arcs-told (ceiling-told (source-told c)))) .args .bytes .now) (behind-source (source-told c)) lineFeed (omega arith) (source-within (source-told c)) (segments-read c)
+segments-within c =
+    behind-within (entry (nodes-told (arcs-told (ceiling-told (source-told c)))) .args .bytes .now) (behind-source (source-told c))
+    lineFeed (omega arith) (source-within (source-told c)) (segments-read c)
 
 -- ---- the line
 
 returns : tie.Need-returns
 unfolding headerLine
-returns c = sym (ap headerOf (no-field (c .before .before .before .before .args .bytes .now) (c .before .before .before .before .args .at) comma (comma ∷ comma ∷ comma ∷ lineFeed ∷ []) (sym (c .before .before .field-at .ensures) ∙ c .enum-told .given .1)))
+returns c =
+    let s = c .before .before .before .before in
+    sym (ap headerOf
+    (no-field (s .args .bytes .now) (s .args .at) comma (comma ∷ comma ∷ comma ∷ lineFeed ∷ []) (sym (c .before .before .field-at .ensures) ∙ c .enum-told .given .1)))
 
 returns-2 : tie.Need-returns-2
 unfolding headerLine
@@ -150,7 +168,7 @@ returns-6 c =
     (one-field bytes (behind-arcs d1) comma (comma ∷ lineFeed ∷ []) (ceiling-read d2)
     (one-field bytes (behind-ceiling d2) comma (lineFeed ∷ []) (source-read d3)
     (one-field bytes (behind-source d3) lineFeed [] (segments-read d4)
-    (refl)))))))
+    refl))))))
 
 pub header-line-at-spec : {M : Type 1} → statement M
 header-line-at-spec =

@@ -1,0 +1,9 @@
+// The program `budget`: a line n,m,C,K on standard input, the most heap operations of both heaps on standard output.
+fn main() {
+    // A line of four fields takes at most 32 bytes; one byte more shows that something is left over.
+    let mut input = [0u8; 64];
+    let mut output = [0u8; 256];
+    let got = io::read_full(0, &mut input);
+    let length = budgets::answer(&input[..got], &mut output);
+    io::write_all(1, &output[..length]);
+}

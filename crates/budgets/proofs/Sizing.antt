@@ -1,0 +1,134 @@
+-- What the checks of a size show, and its text piece by piece. Assumes nothing.
+use Prim.Native.Nat.{ℕ, _+_, _-_, _*_, _≤_, _<_, min, max}
+use native.Mathlib.Omega.{arith}
+use native.Mathlib.Nat.{mul-le-mul}
+use mathlib.Core.Path.{_≡_, refl, sym, _∙_, ap}
+use mathlib.Core.List.{List, [], _∷_, _++_, append-assoc}
+use lib.Dec.{ltb}
+use lib.ListN.{length, getD, length-append, length-drop}
+use Rattle.types.specs.declared.Check.{Check}
+use Rattle.types.specs.declared.Check.the-variants.{Passed, Fault}
+use Rattle.theory.specs.Shape.{oneLevelBuckets, twoLevelBuckets}
+use Rattle.theory.proofs.Shapes.Logarithm.{one-level-most, two-level-most}
+use Rattle.checks.specs.Checks.{faultIf, firstFault}
+use Rattle.checks.proofs.Order.{AllPass, none, more, passed-all, pass-parts}
+use Rattle.checks.proofs.Sizes.{passed-range, passed-heads, passed-ceiling}
+use Rattle.fields.specs.declared.LineRead.the-variants.{Missing, Taken}
+use Rattle.fields.specs.Fields.{Numbers, comma, lineEnds, line, decimal, renderFields, renderLine}
+use Rattle.fields.specs.Reading.{lineTaken, fieldsInto}
+use Rattle.fields.proofs.Lines.{line-within}
+use Rattle.fields.proofs.LineReading.{missing-line, line-read}
+use Rattle.report.specs.Report.{wordOne, wordTwo, ended, refusedText}
+use Rattle.report.proofs.Lines.{ended-length, field-most, two-most}
+use Rattle.budgets.specs.Budget.{mostReached, Small, sizeChecks, budgetCheck, boundsLine, sizeText, budgetText}
+
+-- ---- sizes
+
+-- A size that passes its checks.
+pub record Sized (n m C K : ℕ) : Type 0 where
+  pub some-node : 1 ≤ n
+  pub few-nodes : n ≤ 4096
+  pub few-arcs : m ≤ 65536
+  pub low-ceiling : C ≤ 1048575
+  pub segments-low : 2 ≤ K
+  pub segments-high : K ≤ 64
+
+pub passed-sized : (n m C K : ℕ) → firstFault (sizeChecks n m C K) ≡ Passed → Sized n m C K
+unfolding sizeChecks
+passed-sized n m C K e = go (passed-all _ e)
+  where
+    go : AllPass (sizeChecks n m C K) → Sized n m C K
+    go (more nodes (more arcs (more ceiling (more segments none)))) =
+        let range = passed-range 1 n 1 4096 nodes in
+        let parts = passed-range 9 K 2 64 segments in
+        record {
+          some-node = range .0;
+          few-nodes = range .1;
+          few-arcs = passed-heads m arcs;
+          low-ceiling = passed-ceiling C ceiling;
+          segments-low = parts .0;
+          segments-high = parts .1;
+        }
+
+pub one-some : (C : ℕ) → 1 ≤ oneLevelBuckets C
+unfolding oneLevelBuckets
+one-some C = omega arith
+
+pub two-some : (C K : ℕ) → 1 ≤ twoLevelBuckets C K
+unfolding twoLevelBuckets
+two-some C K = omega arith
+
+module _ {n m C K : ℕ} (S : Sized n m C K) where
+  reached-few : mostReached n m ≤ 4096
+  reached-few = omega (arith, S .few-nodes)
+
+  pub one-small : {r B : ℕ} → r ≡ mostReached n m → B ≡ oneLevelBuckets C → Small r B m
+  one-small e f = record { few-nodes = omega (arith, reached-few); some = omega (arith, one-some C); few = omega (arith, one-level-most C); few-arcs = S .few-arcs }
+
+  pub two-small : {r B : ℕ} → r ≡ mostReached n m → B ≡ twoLevelBuckets C K → Small r B m
+  two-small e f = record { few-nodes = omega (arith, reached-few); some = omega (arith, two-some C K); few = omega (arith, two-level-most C K); few-arcs = S .few-arcs }
+
+-- The bounds fit a word.
+pub placements-fit : {r B m : ℕ} → Small r B m → r * (B - 1) + m + 1 < 4294967296
+placements-fit {r} {B} {m} S = let most : r * (B - 1) ≤ 4096 * 21 = let less : B - 1 ≤ 21 = omega (arith, S .few) in mul-le-mul (S .few-nodes) less in omega (arith, S .few-arcs)
+
+pub looks-fit : {r L : ℕ} → r ≤ 4096 → L ≤ 128 → r * L < 4294967296
+looks-fit {r} {L} a b = let most : r * L ≤ 4096 * 128 = mul-le-mul a b in omega arith
+
+-- ---- the text
+
+pub bounds-whole : (word : List ℕ) (buckets decreases placements looks : ℕ)
+    → ended word comma ++ ended (decimal buckets) comma ++ ended (decimal decreases) comma ++ renderLine comma (placements ∷ looks ∷ [])
+    ≡ boundsLine word buckets decreases placements looks
+unfolding renderFields boundsLine
+bounds-whole word buckets decreases placements looks = simp append-assoc
+
+pub bounds-most : (word : List ℕ) (buckets decreases placements looks : ℕ) → length (boundsLine word buckets decreases placements looks) ≤ length word + 85
+bounds-most word buckets decreases placements looks = omega (
+  arith,
+  ap length (bounds-whole word buckets decreases placements looks),
+  length-append (ended word comma ++ ended (decimal buckets) comma ++ ended (decimal decreases) comma) (renderLine comma (placements ∷ looks ∷ [])),
+  length-append (ended word comma ++ ended (decimal buckets) comma) (ended (decimal decreases) comma),
+  length-append (ended word comma) (ended (decimal buckets) comma),
+  ended-length word comma,
+  field-most buckets comma,
+  field-most decreases comma,
+  two-most placements looks,
+)
+
+pub size-whole : (n m C K : ℕ) {r one two placements₁ looks₁ placements₂ looks₂ : ℕ} → r ≡ mostReached n m → one ≡ oneLevelBuckets C → two ≡ twoLevelBuckets C K
+    → placements₁ ≡ r * (one - 1) + m + 1 → looks₁ ≡ r * one → placements₂ ≡ r * (two - 1) + m + 1 → looks₂ ≡ r * (two + K)
+    → boundsLine wordOne one m placements₁ looks₁ ++ boundsLine wordTwo two m placements₂ looks₂ ≡ sizeText n m C K
+unfolding sizeText
+size-whole n m C K r o t a b c d = rw (a, b, c, d, r, o, t) refl
+
+-- ---- the line
+
+pub missing-text : (bytes : List ℕ) → lineTaken (line comma 4 bytes) ≡ Missing → refusedText 11 1 ≡ budgetText bytes
+unfolding budgetText budgetCheck
+missing-text bytes e = rw (missing-line (line comma 4 bytes) e) refl
+
+module _ (bytes size : List ℕ) {taken : ℕ} (e : lineTaken (line comma 4 bytes) ≡ Taken taken) (f : size ≡ fieldsInto (lineEnds comma 4) bytes (0 ∷ 0 ∷ 0 ∷ 0 ∷ [])) where
+  numbers-read : line comma 4 bytes ≡ Numbers size taken
+  numbers-read = rw f (line-read comma 4 bytes (0 ∷ 0 ∷ 0 ∷ 0 ∷ []) (omega arith) refl e)
+
+  pub line-inside : taken ≤ length bytes
+  line-inside = line-within comma 4 (omega arith) bytes size taken numbers-read
+
+  abbrev made : List Check
+  made = sizeChecks (getD size 0 0) (getD size 1 0) (getD size 2 0) (getD size 3 0) ++ (faultIf 11 2 (ltb 0 (length bytes - taken)) ∷ [])
+
+  check-made : firstFault made ≡ budgetCheck bytes
+  unfolding budgetCheck
+  check-made = rw (numbers-read, length-drop taken bytes) refl
+
+  pub fault-text : {number place : ℕ} → firstFault made ≡ Fault number place → refusedText number place ≡ budgetText bytes
+  unfolding budgetText
+  fault-text g = rw (sym check-made ∙ g) refl
+
+  pub passed-text : firstFault made ≡ Passed → sizeText (getD size 0 0) (getD size 1 0) (getD size 2 0) (getD size 3 0) ≡ budgetText bytes
+  unfolding budgetText
+  passed-text g = rw (sym check-made ∙ g, numbers-read) refl
+
+  pub passed-size : firstFault made ≡ Passed → firstFault (sizeChecks (getD size 0 0) (getD size 1 0) (getD size 2 0) (getD size 3 0)) ≡ Passed
+  passed-size g = pass-parts (sizeChecks (getD size 0 0) (getD size 1 0) (getD size 2 0) (getD size 3 0)) (faultIf 11 2 (ltb 0 (length bytes - taken)) ∷ []) g .0

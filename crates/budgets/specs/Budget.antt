@@ -1,0 +1,94 @@
+-- How many heap operations a map of a given size can take at the most, and the text of it (demand 3, before a map is known).
+use Prim.Native.Nat.{ℕ, _+_, _-_, _*_, _≤_, min}
+use mathlib.Core.Path.{_≡_}
+use mathlib.Core.List.{List, [], _∷_, _++_}
+use lib.Dec.{ltb}
+use lib.ListN.{length, getD, drop}
+use Rattle.types.specs.declared.Check.{Check}
+use Rattle.types.specs.declared.Check.the-variants.{Passed, Fault}
+use Rattle.types.specs.Answers as answers
+use Rattle.theory.specs.Shape.{oneLevelBuckets, twoLevelBuckets}
+use Rattle.checks.specs.Checks.{faultIf, firstFault, nodesCheck, headCountCheck, ceilingCheck, segmentsCheck}
+use Rattle.fields.specs.Fields.{Line, NoLine, Numbers, comma, line, renderLine}
+use Rattle.report.specs.Report.{wordOne, wordTwo, ended, refusedText}
+
+-- ---- the bounds, in n, m, C and K alone
+
+-- The most nodes that are reached: each but the source needs an arc of its own (document 01, "The tallies").
+abbrev pub mostReached : (n m : ℕ) → ℕ
+mostReached n m = min n (m + 1)
+
+-- The most decreases: m - r + 1 for r = 1 (demand 3).
+abbrev pub mostDecreases : (m : ℕ) → ℕ
+mostDecreases m = m
+
+-- The most placements: r × B + m - r + 1 for the most nodes (demand 3).
+abbrev pub mostPlacements : (n m B : ℕ) → ℕ
+mostPlacements n m B = mostReached n m * (B - 1) + m + 1
+
+-- The most looks, where a removal makes at most L: r × L for the most nodes (demand 3).
+abbrev pub mostLooks : (n m L : ℕ) → ℕ
+mostLooks n m L = mostReached n m * L
+
+-- A run has returned no more than the bounds of its size, for a heap of B buckets in which a removal makes at most L looks (demand 3).
+pub record Within (n m B L : ℕ) (numbers : answers.Numbers) : Type 0 where
+  pub buckets : numbers .buckets ≡ B
+  pub decreases : numbers .decreases ≤ mostDecreases m
+  pub placements : numbers .placements ≤ mostPlacements n m B
+  pub looks : numbers .looks ≤ mostLooks n m L
+
+-- Numbers so small that the bounds fit a word of 32 bits.
+pub record Small (reached buckets arcs : ℕ) : Type 0 where
+  pub few-nodes : reached ≤ 4096
+  pub some : 1 ≤ buckets
+  pub few : buckets ≤ 22
+  pub few-arcs : arcs ≤ 65536
+
+-- ---- the line and its checks
+
+-- The four numbers of the line: n, m, C, K.
+pub record Size : Type 0 where
+  pub nodes : ℕ
+  pub arcs : ℕ
+  pub ceiling : ℕ
+  pub segments : ℕ
+
+-- The size that a line tells; a line that is ill-formed is refused, and its numbers count as 0.
+abbrev pub sizeOf : Line → Size
+sizeOf NoLine = record { nodes = 0; arcs = 0; ceiling = 0; segments = 0 }
+sizeOf (Numbers values length) = record { nodes = getD values 0 0; arcs = getD values 1 0; ceiling = getD values 2 0; segments = getD values 3 0 }
+
+-- 1, 4, 2 and 9 of a size (document 01, "What a call returns").
+unfoldable pub sizeChecks : (n m C K : ℕ) → List Check
+sizeChecks n m C K = nodesCheck n ∷ headCountCheck m ∷ ceilingCheck C ∷ segmentsCheck K ∷ []
+
+-- The line by 11, 1, 4, 2 and 9, then left-over bytes (document 01, "What a call returns").
+abbrev pub lineCheck : Line → (bytes : List ℕ) → Check
+lineCheck NoLine bytes = Fault 11 1
+lineCheck (Numbers values taken) bytes =
+    firstFault (sizeChecks (getD values 0 0) (getD values 1 0) (getD values 2 0) (getD values 3 0) ++ (faultIf 11 2 (ltb 0 (length (drop taken bytes))) ∷ []))
+
+-- The checks of the input (document 01, "What a call returns").
+unfoldable pub budgetCheck : (bytes : List ℕ) → Check
+budgetCheck bytes = lineCheck (line comma 4 bytes) bytes
+
+-- ---- the text
+
+-- The line of a heap: its word, B, and the most decreases, placements and looks.
+unfoldable pub boundsLine : (word : List ℕ) → (buckets decreases placements looks : ℕ) → List ℕ
+boundsLine word buckets decreases placements looks = ended word comma ++ renderLine comma (buckets ∷ decreases ∷ placements ∷ looks ∷ [])
+
+-- The bounds of both heaps for a size.
+unfoldable pub sizeText : (n m C K : ℕ) → List ℕ
+sizeText n m C K =
+    boundsLine wordOne (oneLevelBuckets C) (mostDecreases m) (mostPlacements n m (oneLevelBuckets C)) (mostLooks n m (oneLevelBuckets C))
+    ++ boundsLine wordTwo (twoLevelBuckets C K) (mostDecreases m) (mostPlacements n m (twoLevelBuckets C K)) (mostLooks n m (twoLevelBuckets C K + K))
+
+-- The text for a line whose checks come to `check`.
+abbrev pub checkedText : Check → Size → List ℕ
+checkedText Passed size = sizeText (size .nodes) (size .arcs) (size .ceiling) (size .segments)
+checkedText (Fault number place) size = refusedText number place
+
+-- What `budget` prints.
+unfoldable pub budgetText : (bytes : List ℕ) → List ℕ
+budgetText bytes = checkedText (budgetCheck bytes) (sizeOf (line comma 4 bytes))

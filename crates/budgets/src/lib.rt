@@ -1,0 +1,131 @@
+// From a line n,m,C,K to the most heap operations of both heaps (demand 3).
+use checks::numbers;
+use fields::LineRead;
+use types::Check;
+ghost use mathlib.Core.Path.{_≡_};
+ghost use mathlib.Core.List.{[], _∷_, _++_};
+ghost use Prim.Native.Nat.{_+_, _-_, _*_, _≤_};
+ghost use lib.Dec.{ltb};
+ghost use lib.ListN.{length, drop};
+ghost use Rattle.types.specs.declared.Check.the-variants.{Passed};
+ghost use Rattle.checks.specs.Checks.{faultIf, firstFault};
+ghost use Rattle.fields.specs.Writing.{Writes};
+ghost use Rattle.budgets.specs.Budget.{mostReached, Small, sizeChecks, boundsLine, sizeText, budgetText};
+
+fn most_reached(nodes: u32, arcs: u32) -> u32
+    requires { ⌜ arcs ≤ 65536 ⌝ }
+    ensures { λ r. ⌜ r ≡ mostReached nodes arcs ⌝ }
+{
+    if nodes < arcs + 1 { nodes } else { arcs + 1 }
+}
+
+fn most_placements(reached: u32, buckets: u32, arcs: u32) -> u32
+    requires { ⌜ Small reached buckets arcs ⌝ }
+    ensures { λ r. ⌜ r ≡ reached * (buckets - 1) + arcs + 1 ⌝ }
+{
+    reached * (buckets - 1) + arcs + 1
+}
+
+fn most_looks(reached: u32, looks: u32) -> u32
+    requires { ⌜ (reached ≤ 4096) × (looks ≤ 128) ⌝ }
+    ensures { λ r. ⌜ r ≡ reached * looks ⌝ }
+{
+    reached * looks
+}
+
+// The line of a heap.
+fn write_bounds(
+    output: &mut [u8],
+    at: usize,
+    word: &[u8],
+    buckets: u32,
+    decreases: u32,
+    placements: u32,
+    looks: u32,
+) -> usize
+    requires { ⌜ at + length (now word) + 85 ≤ length (now output) ⌝ }
+    ensures { λ r. ⌜ Writes at (boundsLine (now (word .entry)) buckets decreases placements looks) (now (output .entry)) (now (output .exit)) r ⌝ }
+{
+    let second = report::put_word(output, at, word);
+    let third = fields::writing::put_field(output, second, buckets as u64, b',');
+    let fourth = fields::writing::put_field(output, third, decreases as u64, b',');
+    report::put_two(output, fourth, placements as u64, looks as u64)
+}
+
+// The bounds of both heaps for a size that has passed its checks.
+fn write_size(output: &mut [u8], nodes: u32, arcs: u32, ceiling: u32, segments: u32) -> usize
+    requires { ⌜ firstFault (sizeChecks nodes arcs ceiling segments) ≡ Passed ⌝ }
+    requires { ⌜ 256 ≤ length (now output) ⌝ }
+    ensures { λ r. ⌜ Writes 0 (sizeText nodes arcs ceiling segments) (now (output .entry)) (now (output .exit)) r ⌝ }
+{
+    let reached = most_reached(nodes, arcs);
+    let one = bounds::one_level_buckets(ceiling);
+    let two = bounds::two_level_buckets(ceiling, segments);
+    let next = write_bounds(
+        output,
+        0,
+        b"one",
+        one,
+        arcs,
+        most_placements(reached, one, arcs),
+        most_looks(reached, one),
+    );
+    write_bounds(
+        output,
+        next,
+        b"two",
+        two,
+        arcs,
+        most_placements(reached, two, arcs),
+        most_looks(reached, two + segments),
+    )
+}
+
+// The checks of a size, then left-over bytes.
+fn size_check(nodes: u32, arcs: u32, ceiling: u32, segments: u32, left: usize) -> Check
+    ensures { λ r. ⌜ r ≡ firstFault (sizeChecks nodes arcs ceiling segments ++ (faultIf 11 2 (ltb 0 left) ∷ [])) ⌝ }
+{
+    let found = checks::first_of(
+        numbers::nodes_check(nodes),
+        numbers::head_count_check(arcs as usize),
+    );
+    let found = checks::first_of(found, numbers::ceiling_check(ceiling));
+    let found = checks::first_of(found, numbers::segments_check(segments));
+    checks::first_of(found, left_check(left))
+}
+
+fn left_check(left: usize) -> Check
+    ensures { λ r. ⌜ r ≡ faultIf 11 2 (ltb 0 left) ⌝ }
+{
+    if 0 < left {
+        Check::Fault {
+            number: 11,
+            place: 2,
+        }
+    } else {
+        Check::Passed
+    }
+}
+
+// The output as a slice.
+fn answer_in(bytes: &[u8], output: &mut [u8]) -> usize
+    requires { ⌜ 256 ≤ length (now output) ⌝ }
+    ensures { λ r. ⌜ Writes 0 (budgetText (now (bytes .entry))) (now (output .entry)) (now (output .exit)) r ⌝ }
+{
+    let mut size = [0u32; 4];
+    let LineRead::Taken { length } = fields::reading::line_at(bytes, 0, b',', &mut size) else {
+        return report::write_refusal(output, 11, 1);
+    };
+    let check = size_check(size[0], size[1], size[2], size[3], bytes.len() - length);
+    if let Check::Fault { number, place } = check {
+        return report::write_refusal(output, number, place);
+    }
+    write_size(output, size[0], size[1], size[2], size[3])
+}
+
+// What `budget` prints for its input: it is written to the front of the output, and its length is given back.
+pub fn answer(bytes: &[u8], output: &mut [u8; 256]) -> usize
+    ensures { λ r. ⌜ Writes 0 (budgetText (now (bytes .entry))) (now (output .entry)) (now (output .exit)) r ⌝ }
+{
+    answer_in(bytes, output)
+}
