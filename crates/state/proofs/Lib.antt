@@ -3,3 +3,7 @@ pub mod Slots
 pub mod Label
 pub mod Find
 pub mod Remove
+mod Counting
+mod OneMore
+mod Lending
+mod ByValue

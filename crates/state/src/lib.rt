@@ -2,6 +2,13 @@
 ghost use mathlib.Core.Path.{_≡_};
 ghost use Prim.Native.Nat.{_<_, _+_};
 
+mod counts;
+
+use counts::count_decrease;
+use counts::count_insertion;
+use counts::count_looks;
+use counts::count_shift;
+
 // n, B, the segments of a bucket below the last (1 for one level), and the segments of all buckets.
 pub struct Layout {
     pub nodes: usize,
@@ -26,52 +33,41 @@ pub struct State {
     pub tally: Tally,
 }
 
+// By value, so that no function of the core lends a struct, which would be proved by hand (docs/DECISIONS.md).
 impl Tally {
     pub fn inserted(self) -> Tally
         requires { ⌜ self .insertions < 4294967295 ⌝ }
         ensures { λ r. ⌜ (r .insertions ≡ self .insertions + 1) × (r .decreases ≡ self .decreases) × (r .shifts ≡ self .shifts) × (r .looks ≡ self .looks) ⌝ }
     {
-        Tally {
-            insertions: self.insertions + 1,
-            decreases: self.decreases,
-            shifts: self.shifts,
-            looks: self.looks,
-        }
+        let mut tally = self;
+        count_insertion(&mut tally);
+        tally
     }
 
     pub fn decreased(self) -> Tally
         requires { ⌜ self .decreases < 4294967295 ⌝ }
         ensures { λ r. ⌜ (r .insertions ≡ self .insertions) × (r .decreases ≡ self .decreases + 1) × (r .shifts ≡ self .shifts) × (r .looks ≡ self .looks) ⌝ }
     {
-        Tally {
-            insertions: self.insertions,
-            decreases: self.decreases + 1,
-            shifts: self.shifts,
-            looks: self.looks,
-        }
+        let mut tally = self;
+        count_decrease(&mut tally);
+        tally
     }
 
     pub fn shifted(self) -> Tally
         requires { ⌜ self .shifts < 4294967295 ⌝ }
         ensures { λ r. ⌜ (r .insertions ≡ self .insertions) × (r .decreases ≡ self .decreases) × (r .shifts ≡ self .shifts + 1) × (r .looks ≡ self .looks) ⌝ }
     {
-        Tally {
-            insertions: self.insertions,
-            decreases: self.decreases,
-            shifts: self.shifts + 1,
-            looks: self.looks,
-        }
+        let mut tally = self;
+        count_shift(&mut tally);
+        tally
     }
 
     pub fn looked(self, looks: u32) -> Tally
         requires { ⌜ self .looks + looks < 4294967296 ⌝ }
         ensures { λ r. ⌜ (r .insertions ≡ self .insertions) × (r .decreases ≡ self .decreases) × (r .shifts ≡ self .shifts) × (r .looks ≡ self .looks + looks) ⌝ }
     {
-        Tally {
-            insertions: self.insertions,
-            decreases: self.decreases,
-            shifts: self.shifts,
-            looks: self.looks + looks,
-        }
+        let mut tally = self;
+        count_looks(&mut tally, looks);
+        tally
     }
 }
