@@ -1,8 +1,10 @@
 mod Answered
 pub mod Arcs
+mod Held
+mod LinesRead
 mod Lists
 mod Passing
 mod Progress
+pub mod Rendered
 pub mod Runnable
 mod Shown
-pub mod Rendered

@@ -4,3 +4,4 @@ pub mod Plans
 pub mod Promise
 pub mod Rendering
 pub mod Filling
+pub mod Unread

@@ -1,6 +1,7 @@
 // The first pass over a planning file: every check in order, and no word written (document 01, "What a call returns").
 use crate::ArcLine;
-use crate::lines::arc_line_at;
+use crate::cursor::arc_line_at;
+use crate::cursor::left_over_at;
 use checks::first_of;
 use checks::numbers;
 use types::Check;
@@ -135,7 +136,7 @@ fn left_over_check(bytes: &[u8], at: usize, line: usize) -> Check
     requires { ⌜ at ≤ length (now bytes) ⌝ }
     ensures { λ r. ⌜ r ≡ faultIf 11 line (ltb 0 (length (drop at (now (bytes .entry))))) ⌝ }
 {
-    if at < bytes.len() {
+    if left_over_at(bytes, at) > 0 {
         Check::Fault {
             number: 11,
             place: line,

@@ -4,6 +4,7 @@ use types::Node;
 ghost use Rattle.reader.specs.Promise.{PlanPromised};
 
 mod checking;
+mod cursor;
 mod filling;
 mod lines;
 
@@ -58,7 +59,7 @@ pub fn read(bytes: &[u8], starts: &mut [u32], heads: &mut [u32], costs: &mut [u3
         source,
         segments,
         length,
-    } = lines::header_line_at(bytes, 0)
+    } = cursor::header_line_at(bytes, 0)
     else {
         return PlanAnswer::Refused {
             number: 11,

@@ -1,6 +1,7 @@
 -- `reader::checking::left_over_check` meets its contract. Assumes nothing.
 use native.Mathlib.Omega.{arith}
-use lib.ListN.{length, drop, length-drop}
+use lib.ListN.{length, drop}
+use borrow.Author.Needs.{needs}
 use borrow.Author.Tests.{lt-ltb, le-ltb}
 use Rattle.checks.specs.Checks.{faultIf}
 use Rattle.reader.proofs.checking.left_over_check.Statement.{statement}
@@ -9,16 +10,14 @@ use Rattle.reader.proofs.checking.left_over_check.Tie as tie
 returns : tie.Need-returns
 unfolding faultIf
 returns c =
-    let bytes = c .before .args .bytes .now in
-    let at = c .before .args .at in
-    rw (lt-ltb 0 (length (drop at bytes)) (omega (arith, length-drop at bytes)))
+    let start = c .before .before .before in
+    rw (lt-ltb 0 (length (drop (start .args .at) (start .args .bytes .now))) (omega arith))
 
 returns-2 : tie.Need-returns-2
 unfolding faultIf
 returns-2 c =
-    let bytes = c .before .args .bytes .now in
-    let at = c .before .args .at in
-    rw (le-ltb 0 (length (drop at bytes)) (omega (arith, length-drop at bytes)))
+    let start = c .before .before .before in
+    rw (le-ltb 0 (length (drop (start .args .at) (start .args .bytes .now))) (omega arith))
 
 pub left-over-check-spec : {M : Type 1} → statement M
-left-over-check-spec = tie.close (tie.spec returns returns-2)
+left-over-check-spec = tie.close (tie.spec (λ c κs. search needs) returns returns-2)
