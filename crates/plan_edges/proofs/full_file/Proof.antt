@@ -1,0 +1,31 @@
+-- `plan_edges::full_file` meets its contract. The invariant: the file keeps its length, and the place fits. The measure: the lines left.
+use mathlib.Core.Path.{_≡_}
+use Prim.Native.Nat.{_-_, _≤_}
+use lib.ListN.{length}
+use borrow.Author.Needs.{needs}
+use Rattle.plan_edges.proofs.full_file.Statement.{statement}
+use Rattle.plan_edges.proofs.full_file.Tie as tie
+
+abbrev Inv-loop : tie.InvT-loop
+Inv-loop file₀ lines next₀ i₀ file next i = (length file ≡ 65537) × (next ≤ 65537)
+
+abbrev μ-loop : tie.MeasureT-loop
+μ-loop file₀ lines next₀ i₀ file next i = lines - i
+
+pub full-file-spec : {M : Type 1} → statement M
+full-file-spec =
+    tie.close
+    (tie.spec
+    Inv-loop
+    μ-loop
+    (λ c. search needs)
+    (λ c κs. search needs)
+    (λ c. search needs)
+    (λ c. search needs)
+    (λ c. search needs)
+    (λ c κs. search needs)
+    (λ c. search needs)
+    (λ c. search needs)
+    (λ c. search needs)
+    (λ c. search needs)
+    (λ c. search needs))

@@ -1,0 +1,29 @@
+-- `plan_edges::loops_file` meets its contract. The invariant: the file keeps its length, and the place fits. The measure: the lines left.
+use mathlib.Core.Path.{_≡_}
+use Prim.Native.Nat.{_-_, _≤_}
+use lib.ListN.{length}
+use borrow.Author.Needs.{needs}
+use Rattle.plan_edges.proofs.loops_file.Statement.{statement}
+use Rattle.plan_edges.proofs.loops_file.Tie as tie
+
+abbrev Inv-loop : tie.InvT-loop
+Inv-loop file₀ next₀ i₀ file next i = (length file ≡ 65537) × (next ≤ 65537)
+
+abbrev μ-loop : tie.MeasureT-loop
+μ-loop file₀ next₀ i₀ file next i = 2048 - i
+
+pub loops-file-spec : {M : Type 1} → statement M
+loops-file-spec =
+    tie.close
+    (tie.spec
+    Inv-loop
+    μ-loop
+    (λ c. search needs)
+    (λ c κs. search needs)
+    (λ c. search needs)
+    (λ c κs. search needs)
+    (λ c. search needs)
+    (λ c. search needs)
+    (λ c. search needs)
+    (λ c. search needs)
+    (λ c. search needs))

@@ -1,0 +1,29 @@
+-- `plan_edges::sums_of` meets its contract. The measure: the words left.
+use Prim.Native.Nat.{_-_}
+use lib.ListN.{length}
+use borrow.Author.Needs.{needs}
+use Rattle.plan_edges.proofs.sums_of.Statement.{statement}
+use Rattle.plan_edges.proofs.sums_of.Tie as tie
+
+abbrev Inv-loop : tie.InvT-loop
+Inv-loop list plain₀ weighted₀ i₀ plain weighted i = Unit
+
+abbrev μ-loop : tie.MeasureT-loop
+μ-loop list plain₀ weighted₀ i₀ plain weighted i = length list - i
+
+pub sums-of-spec : {M : Type 1} → statement M
+sums-of-spec =
+    tie.close
+    (tie.spec
+    Inv-loop
+    μ-loop
+    (λ c. search needs)
+    (λ c. search needs)
+    (λ c. search needs)
+    (λ c κs. search needs)
+    (λ c κs. search needs)
+    (λ c κs. search needs)
+    (λ c. search needs)
+    (λ c. search needs)
+    (λ c. search needs)
+    (λ c. search needs))

@@ -1,0 +1,55 @@
+-- What a call from C finds in the lent array of numbers, beside what the entry point behind it promises (document 01, "What a call
+-- returns").
+use Prim.Native.Nat.{ℕ}
+use mathlib.Core.Path.{_≡_}
+use mathlib.Core.List.{List, [], _∷_}
+use Rattle.types.specs.declared.RunAnswer.{RunAnswer}
+use Rattle.types.specs.Answers.{Numbers, numbersOf}
+use Rattle.runs.specs.Promise.{Lent, OneLevelPromised, TwoLevelPromised}
+use Rattle.routes.specs.declared.RouteAnswer.{RouteAnswer}
+use Rattle.routes.specs.Routes.{RouteNumbers, routeNumbersOf, RoutePromised}
+use Rattle.reader.specs.declared.PlanAnswer.{PlanAnswer}
+use Rattle.reader.specs.Promise.{PlanNumbers, planNumbersOf, PlanPromised}
+
+-- ---- the numbers as words
+
+-- Number and place, then r, B, decreases, placements and looks (document 01, "What the planner holds and leaves out" and "What a call
+-- returns").
+abbrev pub runWords : Numbers → List ℕ
+runWords numbers =
+    numbers .returned ∷ numbers .place ∷ numbers .reached ∷ numbers .buckets ∷ numbers .decreases ∷ numbers .placements ∷ numbers .looks ∷ []
+
+-- Number and place, then the number of nodes of the route (document 01, "Routes" and "What a call returns").
+abbrev pub routeWords : RouteNumbers → List ℕ
+routeWords numbers = numbers .returned ∷ numbers .place ∷ numbers .nodes ∷ []
+
+-- Number and place, then line 1's five numbers (document 01, "Planning file" and "What a call returns").
+abbrev pub readWords : PlanNumbers → List ℕ
+readWords numbers =
+    numbers .returned ∷ numbers .place ∷ numbers .nodes ∷ numbers .arcs ∷ numbers .ceiling ∷ numbers .source ∷ numbers .segments ∷ []
+
+-- ---- the promises
+
+-- The one-level run: its promise, and the numbers of its answer (document 01, "One-level heap" and "What a call returns").
+pub record OneLevelHanded (n C source : ℕ) (starts heads costs : List ℕ) (l l′ : Lent) (numbers′ : List ℕ) : Type 0 where
+  pub answer : RunAnswer
+  pub promised : OneLevelPromised n C source starts heads costs answer l l′
+  pub numbers : numbers′ ≡ runWords (numbersOf answer)
+
+-- The two-level run: its promise, and the numbers of its answer (document 01, "Two-level heap" and "What a call returns").
+pub record TwoLevelHanded (n C source K : ℕ) (starts heads costs : List ℕ) (l l′ : Lent) (numbers′ : List ℕ) : Type 0 where
+  pub answer : RunAnswer
+  pub promised : TwoLevelPromised n C source K starts heads costs answer l l′
+  pub numbers : numbers′ ≡ runWords (numbersOf answer)
+
+-- A route: its promise, and the numbers of its answer (document 01, "Routes" and "What a call returns").
+pub record RouteHanded (n source : ℕ) (starts heads parents : List ℕ) (destination : ℕ) (words words′ numbers′ : List ℕ) : Type 0 where
+  pub answer : RouteAnswer
+  pub promised : RoutePromised n source starts heads parents destination answer words words′
+  pub numbers : numbers′ ≡ routeWords (routeNumbersOf answer)
+
+-- The reader: its promise, and the numbers of its answer (document 01, "Planning file" and "What a call returns").
+pub record ReadHanded (bytes starts heads costs starts′ heads′ costs′ numbers′ : List ℕ) : Type 0 where
+  pub answer : PlanAnswer
+  pub promised : PlanPromised bytes starts heads costs starts′ heads′ costs′ answer
+  pub numbers : numbers′ ≡ readWords (planNumbersOf answer)

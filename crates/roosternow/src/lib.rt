@@ -1,0 +1,212 @@
+// The interface for C (include/roosternow.h): each function hands numbers and lists to an entry point, and writes what it answers to a
+// lent array of fixed size (document 01, "What a call returns").
+use reader::PlanAnswer;
+use routes::RouteAnswer;
+use types::Node;
+use types::RunAnswer;
+ghost use mathlib.Core.Path.{_≡_};
+ghost use Rattle.types.specs.Answers.{numbersOf};
+ghost use Rattle.runs.specs.Promise.{lent};
+ghost use Rattle.routes.specs.Routes.{routeNumbersOf};
+ghost use Rattle.reader.specs.Promise.{planNumbersOf};
+ghost use Rattle.planning.specs.Planning.{planLists, PlanningPromised};
+ghost use Rattle.roosternow.specs.Handing.{runWords, routeWords, readWords, OneLevelHanded, TwoLevelHanded, RouteHanded, ReadHanded};
+
+fn run_words(answer: RunAnswer) -> [u64; 7]
+    ensures { λ r. ⌜ r ≡ runWords (numbersOf answer) ⌝ }
+{
+    match answer {
+        RunAnswer::Accepted {
+            reached,
+            buckets,
+            decreases,
+            placements,
+            looks,
+        } => [
+            0,
+            0,
+            reached as u64,
+            buckets as u64,
+            decreases as u64,
+            placements as u64,
+            looks as u64,
+        ],
+        RunAnswer::Refused { number, place } => [number as u64, place as u64, 0, 0, 0, 0, 0],
+    }
+}
+
+fn route_words(answer: RouteAnswer) -> [u64; 3]
+    ensures { λ r. ⌜ r ≡ routeWords (routeNumbersOf answer) ⌝ }
+{
+    match answer {
+        RouteAnswer::Found { nodes } => [0, 0, nodes as u64],
+        RouteAnswer::Refused { number, place } => [number as u64, place as u64, 0],
+    }
+}
+
+fn read_words(answer: PlanAnswer) -> [u64; 7]
+    ensures { λ r. ⌜ r ≡ readWords (planNumbersOf answer) ⌝ }
+{
+    match answer {
+        PlanAnswer::Read {
+            nodes,
+            arcs,
+            ceiling,
+            source,
+            segments,
+        } => [
+            0,
+            0,
+            nodes as u64,
+            arcs as u64,
+            ceiling as u64,
+            source.0 as u64,
+            segments as u64,
+        ],
+        PlanAnswer::Refused { number, place } => [number as u64, place as u64, 0, 0, 0, 0, 0],
+    }
+}
+
+// The one-level run.
+#[no_mangle]
+pub extern "C" fn roosternow_one_level(
+    n: u32,
+    ceiling: u32,
+    source: u32,
+    starts: &[u32],
+    heads: &[u32],
+    costs: &[u32],
+    distances: &mut [u32],
+    parents: &mut [u32],
+    roster: &mut [u32],
+    work: &mut [u32],
+    numbers: &mut [u64; 7],
+)
+    ensures { λ _. ⌜ OneLevelHanded n ceiling source (now (starts .entry)) (now (heads .entry)) (now (costs .entry))
+        (lent (now (distances .entry)) (now (parents .entry)) (now (roster .entry)) (now (work .entry)))
+        (lent (now (distances .exit)) (now (parents .exit)) (now (roster .exit)) (now (work .exit))) (now (numbers .exit)) ⌝ }
+{
+    let one = runs::one_level(
+        n,
+        ceiling,
+        Node(source),
+        starts,
+        heads,
+        costs,
+        distances,
+        parents,
+        roster,
+        work,
+    );
+    *numbers = run_words(one);
+}
+
+// The two-level run.
+#[no_mangle]
+pub extern "C" fn roosternow_two_level(
+    n: u32,
+    ceiling: u32,
+    source: u32,
+    segments: u32,
+    starts: &[u32],
+    heads: &[u32],
+    costs: &[u32],
+    distances: &mut [u32],
+    parents: &mut [u32],
+    roster: &mut [u32],
+    work: &mut [u32],
+    numbers: &mut [u64; 7],
+)
+    ensures { λ _. ⌜ TwoLevelHanded n ceiling source segments (now (starts .entry)) (now (heads .entry)) (now (costs .entry))
+        (lent (now (distances .entry)) (now (parents .entry)) (now (roster .entry)) (now (work .entry)))
+        (lent (now (distances .exit)) (now (parents .exit)) (now (roster .exit)) (now (work .exit))) (now (numbers .exit)) ⌝ }
+{
+    let two = runs::two_level(
+        n,
+        ceiling,
+        Node(source),
+        segments,
+        starts,
+        heads,
+        costs,
+        distances,
+        parents,
+        roster,
+        work,
+    );
+    *numbers = run_words(two);
+}
+
+// The route to a destination, by a parent table.
+#[no_mangle]
+pub extern "C" fn roosternow_route(
+    n: u32,
+    source: u32,
+    starts: &[u32],
+    heads: &[u32],
+    parents: &[u32],
+    destination: u32,
+    route: &mut [u32],
+    numbers: &mut [u64; 3],
+)
+    ensures { λ _. ⌜ RouteHanded n source (now (starts .entry)) (now (heads .entry)) (now (parents .entry)) destination
+        (now (route .entry)) (now (route .exit)) (now (numbers .exit)) ⌝ }
+{
+    let answer = routes::route(
+        n,
+        Node(source),
+        starts,
+        heads,
+        parents,
+        Node(destination),
+        route,
+    );
+    *numbers = route_words(answer);
+}
+
+// The map of a planning file.
+#[no_mangle]
+pub extern "C" fn roosternow_read(
+    bytes: &[u8],
+    starts: &mut [u32],
+    heads: &mut [u32],
+    costs: &mut [u32],
+    numbers: &mut [u64; 7],
+)
+    ensures { λ _. ⌜ ReadHanded (now (bytes .entry)) (now (starts .entry)) (now (heads .entry)) (now (costs .entry))
+        (now (starts .exit)) (now (heads .exit)) (now (costs .exit)) (now (numbers .exit)) ⌝ }
+{
+    let answer = reader::read(bytes, starts, heads, costs);
+    *numbers = read_words(answer);
+}
+
+// What `plan` prints for the bytes of a planning file: it is written to the front of the output, and its length is given back.
+#[no_mangle]
+pub extern "C" fn roosternow_answer(
+    bytes: &[u8],
+    starts: &mut [u32; 513],
+    heads: &mut [u32; 2048],
+    costs: &mut [u32; 2048],
+    distances: &mut [u32; 512],
+    parents: &mut [u32; 512],
+    roster: &mut [u32; 512],
+    work: &mut [u32; 2432],
+    output: &mut [u8; 33280],
+) -> usize
+    ensures { λ r. ⌜ PlanningPromised (now (bytes .entry))
+        (planLists (now (starts .entry)) (now (heads .entry)) (now (costs .entry)) (now (distances .entry)) (now (parents .entry)) (now (roster .entry)) (now (work .entry)))
+        (planLists (now (starts .exit)) (now (heads .exit)) (now (costs .exit)) (now (distances .exit)) (now (parents .exit)) (now (roster .exit)) (now (work .exit)))
+        (now (output .entry)) (now (output .exit)) r ⌝ }
+{
+    planning::answer(
+        bytes,
+        starts,
+        heads,
+        costs,
+        distances,
+        parents,
+        roster,
+        work,
+        output,
+    )
+}
