@@ -1,0 +1,245 @@
+/*
+ * roosternow.h - cheapest routes by one- and two-level radix heaps, for C11 and C++11.
+ *
+ * The archive is made by `rt staticlib roosternow` (target/staticlib/libroosternow.a, x86-64 Linux). It needs `memset` of the C library
+ * and nothing else: no heap, no files, no other symbol. Every function below is proved against a contract (crates/roosternow/src/lib.rt)
+ * that says what it answers and what it leaves in every lent list, for every input that meets the rules here.
+ *
+ * The map. n nodes are numbered 0 to n - 1, m arcs from 0. The arcs leaving node v are numbers starts[v] up to but not including
+ * starts[v + 1], arc a goes to node heads[a] and costs costs[a]. Self-loops and parallel arcs are allowed. Words are 32 bits.
+ *
+ * Rules for every function.
+ * - A list is a pointer and the number of its elements. The pointer is aligned for its type, and that many elements may be read, and
+ *   written where the pointer is not to const. A list of 0 elements may have a null pointer. `numbers` and the lists of fixed size are
+ *   never null.
+ * - A list that is written (a pointer not to const) overlaps no other list of the call. Lists that are only read may overlap.
+ * - Words past those that a function fills are untouched. A refusal changes no word but `numbers` (roosternow_answer: but `output`).
+ * - There is no state between calls and no global state. Calls may run in several threads at once, and in interrupt handlers, if no list
+ *   that one of them writes is used by another at that time. A function calls nothing back, does not block and always returns.
+ * - A function refuses, with a number and a place, whatever it is not to work on (enum roosternow_refusal); nothing has to be checked by
+ *   the caller but the rules above.
+ * - r is the number of reached nodes, the source included, and B the number of buckets: ceil(log2(C + 1)) + 2 for the one-level heap, at
+ *   most 22; max(2, ceil(logK(C + 1)) + 1) for the two-level heap, at most 5 for K = 64.
+ *
+ * Changes. Versions are MAJOR.MINOR. Within a major version functions, refusals (the next free numbers) and macros may be added, and
+ * nothing that is here changes its name, its parameters, its numbers or their places. A new major version may change all of it. A program
+ * may hold ROOSTERNOW_VERSION against the least version that it needs; header and archive are of one version.
+ */
+#ifndef ROOSTERNOW_H
+#define ROOSTERNOW_H
+
+#include <stddef.h>
+#include <stdint.h>
+
+#define ROOSTERNOW_VERSION_MAJOR 1
+#define ROOSTERNOW_VERSION_MINOR 0
+#define ROOSTERNOW_VERSION (ROOSTERNOW_VERSION_MAJOR * 1000 + ROOSTERNOW_VERSION_MINOR)
+
+/* The least and the most that are accepted. */
+#define ROOSTERNOW_LEAST_NODES 1u
+#define ROOSTERNOW_MOST_NODES 4096u
+#define ROOSTERNOW_MOST_ARCS 65536u
+#define ROOSTERNOW_MOST_CEILING 1048575u
+#define ROOSTERNOW_LEAST_SEGMENTS 2u
+#define ROOSTERNOW_MOST_SEGMENTS 64u
+
+/* "None": the distance of an unreached node, the parent of the source and of unreached nodes. */
+#define ROOSTERNOW_NONE UINT32_C(4294967295)
+
+/* Words to lend for n nodes: starts, work of each run, and each of distances, parents, roster and route. */
+#define ROOSTERNOW_STARTS(n) ((size_t)(n) + 1u)
+#define ROOSTERNOW_WORK_ONE_LEVEL(n) (4u * (size_t)(n) + 64u)
+#define ROOSTERNOW_WORK_TWO_LEVEL(n) (4u * (size_t)(n) + 384u)
+#define ROOSTERNOW_BY_NODE(n) ((size_t)(n))
+
+/* Words of `numbers`. */
+#define ROOSTERNOW_RUN_NUMBERS 7
+#define ROOSTERNOW_ROUTE_NUMBERS 3
+#define ROOSTERNOW_READ_NUMBERS 7
+
+/* The fixed sizes of roosternow_answer, and the most bytes that it takes. */
+#define ROOSTERNOW_ANSWER_STARTS 513
+#define ROOSTERNOW_ANSWER_ARCS 2048
+#define ROOSTERNOW_ANSWER_NODES 512
+#define ROOSTERNOW_ANSWER_WORK 2432
+#define ROOSTERNOW_ANSWER_BYTES 33280
+#define ROOSTERNOW_ANSWER_INPUT 65536
+
+/* A list of at least so many elements: C's `static`, of which C++ knows nothing. */
+#ifdef __cplusplus
+#define ROOSTERNOW_LENT(elements)
+#else
+#define ROOSTERNOW_LENT(elements) static elements
+#endif
+
+#ifdef __cplusplus
+extern "C" {
+#endif
+
+/* What stands at each place of `numbers`. All numbers of a refusal but the first two are 0. */
+enum roosternow_number {
+    ROOSTERNOW_RETURNED = 0, /* enum roosternow_refusal */
+    ROOSTERNOW_PLACE = 1,    /* the refusal's place, 0 where it has none */
+    /* one_level, two_level */
+    ROOSTERNOW_REACHED = 2,    /* r */
+    ROOSTERNOW_BUCKETS = 3,    /* B */
+    ROOSTERNOW_DECREASES = 4,  /* decreases + r <= m + 1 */
+    ROOSTERNOW_PLACEMENTS = 5, /* placements + r <= r * B + m + 1 */
+    ROOSTERNOW_LOOKS = 6,      /* at most r * B; for two levels r * (B + K) */
+    /* route */
+    ROOSTERNOW_ROUTE_NODES = 2, /* nodes of the route, source and destination included */
+    /* read */
+    ROOSTERNOW_NODES = 2,
+    ROOSTERNOW_ARCS = 3,
+    ROOSTERNOW_CEILING = 4,
+    ROOSTERNOW_SOURCE = 5,
+    ROOSTERNOW_SEGMENTS = 6
+};
+
+/* Refusals, in numbers[ROOSTERNOW_RETURNED]; the place is in numbers[ROOSTERNOW_PLACE], and 0 where none is named. */
+enum roosternow_refusal {
+    ROOSTERNOW_ACCEPTED = 0,
+    ROOSTERNOW_BAD_NODES = 1,
+    ROOSTERNOW_BAD_CEILING = 2,
+    ROOSTERNOW_BAD_SOURCE = 3,
+    ROOSTERNOW_BAD_ARCS = 4,
+    ROOSTERNOW_BAD_STARTS_LENGTH = 5,
+    ROOSTERNOW_BAD_STARTS = 6, /* place: least such index */
+    ROOSTERNOW_BAD_HEAD = 7,   /* place: least arc */
+    ROOSTERNOW_BAD_COST = 8,   /* place: least arc */
+    ROOSTERNOW_BAD_SEGMENTS = 9,
+    ROOSTERNOW_SHORT_LIST = 10, /* place: first such list, numbered at each function */
+    ROOSTERNOW_BAD_LINE = 11,   /* place: line from 1 */
+    ROOSTERNOW_BAD_TAIL = 12,   /* place: arc */
+    ROOSTERNOW_LONG_INPUT = 13, /* roosternow_answer only */
+    ROOSTERNOW_BAD_DESTINATION = 14,
+    ROOSTERNOW_NO_PARENT = 15,
+    ROOSTERNOW_BAD_PARENTS = 16,
+    ROOSTERNOW_SHORT_ROUTE = 17
+};
+
+/* A refusal in words. */
+static inline const char *roosternow_refusal_text(uint64_t returned) {
+    switch (returned) {
+    case ROOSTERNOW_ACCEPTED: return "accepted";
+    case ROOSTERNOW_BAD_NODES: return "n outside 1 to 4,096";
+    case ROOSTERNOW_BAD_CEILING: return "C above 1,048,575";
+    case ROOSTERNOW_BAD_SOURCE: return "source not below n";
+    case ROOSTERNOW_BAD_ARCS: return "more than 65,536 arcs, or heads and costs differ in length";
+    case ROOSTERNOW_BAD_STARTS_LENGTH: return "starts not n + 1 words";
+    case ROOSTERNOW_BAD_STARTS: return "starts: first not 0, one below its predecessor or above m, or last not m";
+    case ROOSTERNOW_BAD_HEAD: return "head not below n";
+    case ROOSTERNOW_BAD_COST: return "cost above C";
+    case ROOSTERNOW_BAD_SEGMENTS: return "K outside 2 to 64";
+    case ROOSTERNOW_SHORT_LIST: return "lent list too short";
+    case ROOSTERNOW_BAD_LINE: return "line missing, ill-formed or left over";
+    case ROOSTERNOW_BAD_TAIL: return "tail below the one before or not below n";
+    case ROOSTERNOW_LONG_INPUT: return "input over 65,536 bytes";
+    case ROOSTERNOW_BAD_DESTINATION: return "destination not below n";
+    case ROOSTERNOW_NO_PARENT: return "destination has no parent and is not the source";
+    case ROOSTERNOW_BAD_PARENTS: return "parents do not lead back to the source by arcs below m whose heads fit, in at most n - 1 arcs";
+    case ROOSTERNOW_SHORT_ROUTE: return "route list has fewer words than the route has nodes";
+    default: return "no refusal of this version";
+    }
+}
+
+/*
+ * The one-level run: cheapest routes from the source to every node.
+ *
+ * Needs: the map in starts (n + 1 words), heads and costs (m words each); `ceiling` C, which no cost exceeds; n words for each of
+ *   distances, parents and roster; ROOSTERNOW_WORK_ONE_LEVEL(n) words of work. None of these four has to be cleared.
+ * Gives: distances[v], the least cost of a route to v, and parents[v], the last arc of such a route; ROOSTERNOW_NONE where there is none. A
+ *   parent is the first arc examined that gives the distance, where nodes are scanned by distance and number, and arcs by number. roster[0]
+ *   to roster[r - 1] are the reached nodes by nondecreasing distance, equal distances in any order. The ROOSTERNOW_WORK_ONE_LEVEL(n) first
+ *   work words are 0. numbers: 0, 0, r, B, decreases, placements, looks.
+ * Refuses: 1 to 8, then 10 with place 0 distances, 1 parents, 2 roster, 3 work; in this order, the first found.
+ * Costs: time in proportion to n + m + r * B at most; stack below 1 KB.
+ */
+void roosternow_one_level(uint32_t n, uint32_t ceiling, uint32_t source,
+                          const uint32_t *starts, size_t starts_words,
+                          const uint32_t *heads, size_t heads_words,
+                          const uint32_t *costs, size_t costs_words,
+                          uint32_t *distances, size_t distances_words,
+                          uint32_t *parents, size_t parents_words,
+                          uint32_t *roster, size_t roster_words,
+                          uint32_t *work, size_t work_words,
+                          uint64_t numbers[ROOSTERNOW_LENT(ROOSTERNOW_RUN_NUMBERS)]);
+
+/*
+ * The two-level run: the same with `segments` K segments to a bucket, 2 to 64. Larger K is faster on most maps.
+ *
+ * Needs: as roosternow_one_level, with ROOSTERNOW_WORK_TWO_LEVEL(n) words of work.
+ * Gives: as roosternow_one_level, with distances, parents, r and decreases equal to its own, and ROOSTERNOW_WORK_TWO_LEVEL(n) work words 0.
+ * Refuses: 1 to 9, then 10 with place 0 distances, 1 parents, 2 roster, 3 work; in this order, the first found.
+ * Costs: time in proportion to n + m + r * (B + K) at most; stack below 8 KB.
+ */
+void roosternow_two_level(uint32_t n, uint32_t ceiling, uint32_t source, uint32_t segments,
+                          const uint32_t *starts, size_t starts_words,
+                          const uint32_t *heads, size_t heads_words,
+                          const uint32_t *costs, size_t costs_words,
+                          uint32_t *distances, size_t distances_words,
+                          uint32_t *parents, size_t parents_words,
+                          uint32_t *roster, size_t roster_words,
+                          uint32_t *work, size_t work_words,
+                          uint64_t numbers[ROOSTERNOW_LENT(ROOSTERNOW_RUN_NUMBERS)]);
+
+/*
+ * The route from the source to a destination, by a parent table that a run has filled or that comes from elsewhere.
+ *
+ * Needs: starts (n + 1 words) and heads (m words) of the map; n words of parents at least; a route list with room for the route, for which
+ *   n words are always enough.
+ * Gives: the nodes of the route in the route list, source first; numbers: 0, 0, how many nodes. After a run that was accepted on the same
+ *   map and source, the route to every reached node is given, and costs its distance.
+ * Refuses: 1, 3, 4 (heads alone), 5, 6, 7, 10 with place 1 parents, 14 to 17; in this order, the first found.
+ * Costs: time in proportion to n + m, plus log2(n) for each arc of the route; 160 bytes of stack for each node of the route and below 1 KB
+ *   besides, at most 656,384 bytes for a route, or a table that goes round, of 4,096 nodes.
+ */
+void roosternow_route(uint32_t n, uint32_t source,
+                      const uint32_t *starts, size_t starts_words,
+                      const uint32_t *heads, size_t heads_words,
+                      const uint32_t *parents, size_t parents_words,
+                      uint32_t destination,
+                      uint32_t *route, size_t route_words,
+                      uint64_t numbers[ROOSTERNOW_LENT(ROOSTERNOW_ROUTE_NUMBERS)]);
+
+/*
+ * The map of a planning file. Line 1 is n,m,C,source,K; then m lines tail,head,cost with tails never falling. A field is 1 to 7 digits with
+ * no leading zero except 0 itself. Each line ends in one line feed, the last too.
+ *
+ * Needs: the file's bytes; n + 1 words of starts and m words of each of heads and costs at least.
+ * Gives: n + 1 starts, m heads and m costs, as the runs take them; numbers: 0, 0, n, m, C, source, K. Both runs accept such a map.
+ * Refuses: line 1 by 11, 1, 4, 2, 3, 9, then 10 with place 0 starts, 1 heads, 2 costs; then each line by 11, 12, 7, 8; then left-over
+ *   bytes by 11; in this order, the first found.
+ * Costs: time in proportion to the bytes and n, the bytes read twice; stack below 1 KB.
+ */
+void roosternow_read(const uint8_t *bytes, size_t bytes_length,
+                     uint32_t *starts, size_t starts_words,
+                     uint32_t *heads, size_t heads_words,
+                     uint32_t *costs, size_t costs_words,
+                     uint64_t numbers[ROOSTERNOW_LENT(ROOSTERNOW_READ_NUMBERS)]);
+
+/*
+ * The text that the program `plan` prints for a planning file: both runs, with distances and parents, or one line `refused,NUMBER,PLACE`.
+ *
+ * Needs: the file's bytes, and lists of the fixed sizes. None has to be cleared.
+ * Gives: the text at the front of output, and how many bytes it has. starts, heads and costs hold the map, distances, parents, roster and
+ *   work what the two-level run leaves.
+ * Refuses: in its text, 13 first (more than 65,536 bytes), then as roosternow_read with lists of these sizes. Output is then written, and
+ *   no other list.
+ * Costs: as roosternow_read, both runs and the text, at most 64 bytes for each node and 512; stack below 8 KB.
+ */
+size_t roosternow_answer(const uint8_t *bytes, size_t bytes_length,
+                         uint32_t starts[ROOSTERNOW_LENT(ROOSTERNOW_ANSWER_STARTS)],
+                         uint32_t heads[ROOSTERNOW_LENT(ROOSTERNOW_ANSWER_ARCS)],
+                         uint32_t costs[ROOSTERNOW_LENT(ROOSTERNOW_ANSWER_ARCS)],
+                         uint32_t distances[ROOSTERNOW_LENT(ROOSTERNOW_ANSWER_NODES)],
+                         uint32_t parents[ROOSTERNOW_LENT(ROOSTERNOW_ANSWER_NODES)],
+                         uint32_t roster[ROOSTERNOW_LENT(ROOSTERNOW_ANSWER_NODES)],
+                         uint32_t work[ROOSTERNOW_LENT(ROOSTERNOW_ANSWER_WORK)],
+                         uint8_t output[ROOSTERNOW_LENT(ROOSTERNOW_ANSWER_BYTES)]);
+
+#ifdef __cplusplus
+}
+#endif
+
+#endif

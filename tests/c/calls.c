@@ -1,0 +1,471 @@
+/*
+ * Calls every function of roosternow.h on valid and damaged inputs, and compares each answer and each lent word with plain.h. Guard bytes
+ * stand before and behind every list. Use: calls [INPUTS [SEED]]
+ */
+#include "plain.h"
+#include "roosternow.h"
+
+#include <pthread.h>
+#include <stdlib.h>
+
+/* ---- random numbers */
+
+static uint64_t state;
+
+static uint32_t below(uint32_t bound) {
+    state ^= state << 13, state ^= state >> 7, state ^= state << 17;
+    return (uint32_t)((state * UINT64_C(0x2545F4914F6CDD1D)) >> 32) % bound;
+}
+
+static bool one_in(uint32_t chances) {
+    return below(chances) == 0;
+}
+
+/* ---- what was called */
+
+enum function { ONE_LEVEL, TWO_LEVEL, ROUTE, READ, ANSWER, FUNCTIONS };
+
+static const char *const names[FUNCTIONS] = {"one_level", "two_level", "route", "read", "answer"};
+static uint64_t told[FUNCTIONS][18];
+static uint64_t input;
+
+static void expect(bool holds, const char *what) {
+    if (holds) return;
+    fprintf(stderr, "calls: input %" PRIu64 ": %s\n", input, what);
+    exit(1);
+}
+
+/* ---- lists with guards */
+
+#define GUARD 32
+#define GUARD_BYTE 0xA5
+
+struct list {
+    uint8_t *base, *before;
+    size_t size, length, capacity;
+};
+
+static struct list make(size_t size, size_t capacity) {
+    struct list list = {malloc(size * capacity + 2 * GUARD), malloc(size * capacity + 1), size, 0, capacity};
+    expect(list.base && list.before, "no memory");
+    return list;
+}
+
+static uint32_t *words_of(const struct list *list) {
+    return (uint32_t *)(void *)(list->base + GUARD);
+}
+
+static uint8_t *bytes_of(const struct list *list) {
+    return list->base + GUARD;
+}
+
+/* So many elements of random content. */
+static void lend(struct list *list, size_t length) {
+    size_t bytes = list->size * length;
+    expect(length <= list->capacity, "a list of the test is too small");
+    list->length = length;
+    memset(list->base, GUARD_BYTE, GUARD);
+    memset(list->base + GUARD + bytes, GUARD_BYTE, GUARD);
+    for (size_t i = 0; i < bytes; i += 4) {
+        uint32_t word = below(UINT32_MAX);
+        memcpy(list->base + GUARD + i, &word, bytes - i < 4 ? bytes - i : 4);
+    }
+}
+
+static void keep(struct list *list) {
+    memcpy(list->before, list->base + GUARD, list->size * list->length);
+}
+
+/* An empty list is handed over as null now and then. */
+static uint32_t *words_or_null(const struct list *list) {
+    return list->length == 0 && one_in(2) ? NULL : words_of(list);
+}
+
+/* The first elements are those expected, the others as they were, and the guards untouched. */
+static void compare(const struct list *list, const void *expected, size_t filled, const char *what) {
+    size_t bytes = list->size * list->length, done = list->size * filled;
+    for (size_t i = 0; i < GUARD; i++) {
+        expect(list->base[i] == GUARD_BYTE && list->base[GUARD + bytes + i] == GUARD_BYTE, "a guard was written");
+    }
+    expect(filled <= list->length, what);
+    expect(done == 0 || memcmp(list->base + GUARD, expected, done) == 0, what);
+    expect(memcmp(list->base + GUARD + done, list->before + done, bytes - done) == 0, what);
+}
+
+static struct list starts, heads, costs, distances, parents, roster, work, route, bytes, output, run_numbers, route_numbers;
+
+static void make_lists(void) {
+    starts = make(4, PLAIN_NODES + 8), heads = make(4, PLAIN_ARCS + 8), costs = make(4, PLAIN_ARCS + 8);
+    distances = make(4, PLAIN_NODES + 8), parents = make(4, PLAIN_NODES + 8), roster = make(4, PLAIN_NODES + 8);
+    work = make(4, 4 * PLAIN_NODES + 400), route = make(4, PLAIN_NODES + 8);
+    bytes = make(1, 36 * (PLAIN_ARCS + 8)), output = make(1, ROOSTERNOW_ANSWER_BYTES);
+    run_numbers = make(8, ROOSTERNOW_RUN_NUMBERS), route_numbers = make(8, ROOSTERNOW_ROUTE_NUMBERS);
+}
+
+static void free_lists(void) {
+    struct list *all[] = {&starts, &heads, &costs, &distances, &parents, &roster, &work, &route, &bytes, &output, &run_numbers, &route_numbers};
+    for (size_t i = 0; i < sizeof all / sizeof all[0]; i++) free(all[i]->base), free(all[i]->before);
+}
+
+static uint64_t *lend_numbers(struct list *numbers, size_t count) {
+    lend(numbers, count);
+    keep(numbers);
+    return (uint64_t *)(void *)bytes_of(numbers);
+}
+
+/* ---- maps */
+
+static struct plain_map map;
+static uint32_t segments;
+
+static uint32_t some_ceiling(void) {
+    static const uint32_t edges[] = {0, 1, 2, 3, 7, 8, 9, 15, 16, 63, 64, 65, 1000, 4095, 4096, 262143, 1048574, 1048575};
+    return one_in(3) ? below(1048576) : edges[below(sizeof edges / sizeof edges[0])];
+}
+
+/* A valid map of n nodes and m arcs in the lists. */
+static void draw_map(uint32_t n, uint32_t m) {
+    uint32_t *start = words_of(&starts);
+    lend(&starts, (size_t)n + 1), lend(&heads, m), lend(&costs, m);
+    map.n = n, map.ceiling = some_ceiling(), map.source = below(n);
+    segments = 2 + below(63);
+    memset(start, 0, 4 * ((size_t)n + 1));
+    for (uint32_t a = 0; a < m; a++) start[below(n) + 1]++;
+    for (uint32_t v = 0; v < n; v++) start[v + 1] += start[v];
+    uint32_t dearest = one_in(4) && map.ceiling > 3 ? 3 : map.ceiling;
+    for (uint32_t a = 0; a < m; a++) {
+        words_of(&heads)[a] = below(n);
+        words_of(&costs)[a] = one_in(16) ? map.ceiling : below(dearest + 1);
+    }
+}
+
+static void draw_some_map(bool large) {
+    uint32_t n = large ? 1 + below(PLAIN_NODES) : 1 + below(24);
+    if (large && one_in(2)) n = PLAIN_NODES;
+    draw_map(n, large ? below(PLAIN_ARCS + 1) : below(3 * n + 8));
+}
+
+static void change_word(const struct list *list, uint32_t spread) {
+    if (list->length == 0) return;
+    words_of(list)[below((uint32_t)list->length)] = one_in(4) ? below(UINT32_MAX) : below(spread);
+}
+
+/* One fault in the map or in the words told with it; now and then it makes none. */
+static void damage_map(void) {
+    switch (below(14)) {
+    case 0: map.n = one_in(2) ? 0 : 4097 + below(3); break;
+    case 1: map.n = below(30); break;
+    case 2: map.ceiling = 1048576 + below(3); break;
+    case 3: map.ceiling = below(map.ceiling + 1); break;
+    case 4: map.source = map.n + below(3); break;
+    case 5: map.source = below(UINT32_MAX); break;
+    case 6: if (costs.length) costs.length--; break;
+    case 7: if (heads.length) heads.length--; break;
+    case 8: if (starts.length) starts.length--; break;
+    case 9: change_word(&starts, (uint32_t)heads.length + 2); break;
+    case 10: change_word(&heads, map.n + 2); break;
+    case 11: change_word(&costs, map.ceiling + 2); break;
+    case 12: segments = one_in(2) ? below(2) : 65 + below(1000); break;
+    default: if (one_in(40)) lend(&heads, PLAIN_ARCS + 1), lend(&costs, PLAIN_ARCS + 1); break;
+    }
+}
+
+/* A list cut short by the test has its guards moved up to its new end. */
+static void settle(struct list *list) {
+    memset(list->base + GUARD + list->size * list->length, GUARD_BYTE, GUARD);
+    keep(list);
+}
+
+static void settle_map(void) {
+    settle(&starts), settle(&heads), settle(&costs);
+    map.starts = words_of(&starts), map.heads = words_of(&heads), map.costs = words_of(&costs);
+    map.starts_words = starts.length, map.heads_words = heads.length, map.costs_words = costs.length;
+}
+
+static void compare_map(void) {
+    compare(&starts, NULL, 0, "starts changed"), compare(&heads, NULL, 0, "heads changed"), compare(&costs, NULL, 0, "costs changed");
+}
+
+/* ---- the runs */
+
+static struct plain_run run;
+
+static void lend_by_node(struct list *list, uint32_t damage) {
+    size_t n = map.n <= PLAIN_NODES ? map.n : PLAIN_NODES;
+    lend(list, one_in(damage) ? below((uint32_t)n + 1) : n + below(5));
+    keep(list);
+}
+
+/* Each reached node once, by nondecreasing distance. */
+static void compare_roster(uint64_t reached) {
+    static bool seen[PLAIN_NODES];
+    uint32_t last = 0;
+    memset(seen, 0, sizeof seen);
+    compare(&roster, words_of(&roster), (size_t)reached, "roster written past its nodes");
+    for (uint64_t i = 0; i < reached; i++) {
+        uint32_t v = words_of(&roster)[i];
+        expect(v < map.n && !seen[v], "roster: not each node once");
+        seen[v] = true;
+        expect(run.distances[v] != PLAIN_NONE && run.distances[v] >= last, "roster: out of order");
+        last = run.distances[v];
+    }
+}
+
+static void call_run(bool two, uint32_t damage) {
+    static const uint32_t zeros[4 * PLAIN_NODES + 384];
+    uint64_t *numbers = lend_numbers(&run_numbers, ROOSTERNOW_RUN_NUMBERS);
+    size_t n = map.n <= PLAIN_NODES ? map.n : PLAIN_NODES, needed = 4 * n + (two ? 384 : 64);
+    lend_by_node(&distances, damage), lend_by_node(&parents, damage), lend_by_node(&roster, damage);
+    lend(&work, one_in(damage) ? needed - 1 - below((uint32_t)needed) : needed + below(5)), keep(&work);
+    if (two) {
+        roosternow_two_level(map.n, map.ceiling, map.source, segments, words_or_null(&starts), starts.length, words_or_null(&heads),
+                             heads.length, words_or_null(&costs), costs.length, words_or_null(&distances), distances.length,
+                             words_or_null(&parents), parents.length, words_or_null(&roster), roster.length, words_or_null(&work),
+                             work.length, numbers);
+    } else {
+        roosternow_one_level(map.n, map.ceiling, map.source, words_or_null(&starts), starts.length, words_or_null(&heads), heads.length,
+                             words_or_null(&costs), costs.length, words_or_null(&distances), distances.length, words_or_null(&parents),
+                             parents.length, words_or_null(&roster), roster.length, words_or_null(&work), work.length, numbers);
+    }
+    size_t lent[4] = {distances.length, parents.length, roster.length, work.length};
+    struct plain_fault fault = plain_run_check(&map, two, segments, lent);
+    uint64_t expected[ROOSTERNOW_RUN_NUMBERS] = {fault.number, fault.place, 0, 0, 0, 0, 0};
+    bool accepted = fault.number == 0;
+    if (accepted) {
+        expect(plain_plan(&map, two, segments, &run), "plain.h: the smallest node is not in the lowest bucket");
+        expected[2] = run.reached, expected[3] = run.buckets, expected[4] = run.decreases;
+        expected[5] = run.placements, expected[6] = run.looks;
+    }
+    told[two ? TWO_LEVEL : ONE_LEVEL][fault.number]++;
+    compare(&run_numbers, expected, ROOSTERNOW_RUN_NUMBERS, two ? "two_level: numbers" : "one_level: numbers");
+    compare_map();
+    compare(&distances, run.distances, accepted ? map.n : 0, "distances");
+    compare(&parents, run.parents, accepted ? map.n : 0, "parents");
+    compare(&work, zeros, accepted ? needed : 0, "work");
+    compare_roster(accepted ? run.reached : 0);
+}
+
+/* ---- routes */
+
+/* By the parents that the call before has left, by random ones, or by a mixture. */
+static void call_route(uint32_t damage) {
+    static uint32_t nodes[PLAIN_NODES];
+    uint64_t *numbers = lend_numbers(&route_numbers, ROOSTERNOW_ROUTE_NUMBERS), count;
+    uint32_t destination = one_in(20) ? map.n + below(3) : below(map.n ? map.n : 1);
+    if (one_in(damage)) change_word(&parents, (uint32_t)heads.length + 1);
+    for (size_t i = 0; one_in(damage) && i < parents.length; i++) change_word(&parents, (uint32_t)heads.length + 1);
+    keep(&parents);
+    size_t n = map.n <= PLAIN_NODES ? map.n : PLAIN_NODES;
+    lend(&route, one_in(4) ? below((uint32_t)n + 3) : n), keep(&route);
+    roosternow_route(map.n, map.source, words_or_null(&starts), starts.length, words_or_null(&heads), heads.length, words_or_null(&parents),
+                     parents.length, destination, words_or_null(&route), route.length, numbers);
+    struct plain_fault fault = plain_route(&map, words_of(&parents), parents.length, destination, route.length, nodes, &count);
+    uint64_t expected[ROOSTERNOW_ROUTE_NUMBERS] = {fault.number, fault.place, count};
+    told[ROUTE][fault.number]++;
+    compare(&route_numbers, expected, ROOSTERNOW_ROUTE_NUMBERS, "route: numbers");
+    compare_map();
+    compare(&parents, NULL, 0, "route: parents changed");
+    compare(&route, nodes, (size_t)count, "route: nodes");
+}
+
+/* ---- planning files */
+
+static struct plain_file file;
+
+/* The map of the lists as a planning file; a line has at most three numbers of 10 digits. */
+static void write_file(void) {
+    char *text = (char *)bytes_of(&bytes);
+    size_t room = bytes.capacity;
+    size_t m = heads.length, told_arcs = one_in(300) ? 65535 + below(4) : m;
+    size_t at = (size_t)snprintf(text, room, "%" PRIu32 ",%zu,%" PRIu32 ",%" PRIu32 ",%" PRIu32 "\n", map.n, told_arcs, map.ceiling,
+                                 map.source, segments);
+    uint32_t tail = 0;
+    for (uint32_t a = 0; a < m; a++) {
+        while (tail + 1 < map.n && tail + 1 < starts.length && words_of(&starts)[tail + 1] <= a) tail++;
+        at += (size_t)snprintf(text + at, room - at, "%" PRIu32 ",%" PRIu32 ",%" PRIu32 "\n", tail, words_of(&heads)[a], words_of(&costs)[a]);
+    }
+    bytes.length = at;
+}
+
+/* A byte changed, left out or put in, or the file cut. */
+static void damage_file(void) {
+    static const char drawn[] = "0123456789,\n -\r";
+    uint8_t *text = bytes_of(&bytes);
+    size_t at = below((uint32_t)bytes.length + 1);
+    uint8_t byte = one_in(8) ? (uint8_t)below(256) : (uint8_t)drawn[below(sizeof drawn - 1)];
+    switch (below(4)) {
+    case 0: if (at < bytes.length) text[at] = byte; break;
+    case 1: if (at < bytes.length) memmove(text + at, text + at + 1, bytes.length-- - at - 1); break;
+    case 2: memmove(text + at + 1, text + at, bytes.length++ - at), text[at] = byte; break;
+    default: bytes.length = at; break;
+    }
+}
+
+static void draw_file(uint32_t damage) {
+    write_file();
+    while (bytes.length > 0 && one_in(damage)) damage_file();
+    memset(bytes.base, GUARD_BYTE, GUARD);
+    settle(&bytes);
+}
+
+static const uint8_t *bytes_or_null(void) {
+    return bytes.length == 0 && one_in(2) ? NULL : bytes_of(&bytes);
+}
+
+static void call_read(uint32_t damage) {
+    uint64_t *numbers = lend_numbers(&run_numbers, ROOSTERNOW_READ_NUMBERS);
+    uint32_t n = map.n <= PLAIN_NODES ? map.n : PLAIN_NODES, m = (uint32_t)heads.length;
+    lend(&starts, one_in(damage) ? below(n + 1) : (size_t)n + 1 + below(4)), keep(&starts);
+    lend(&heads, one_in(damage) ? below(m + 1) : m + below(4)), keep(&heads);
+    lend(&costs, one_in(damage) ? below(m + 1) : m + below(4)), keep(&costs);
+    roosternow_read(bytes_or_null(), bytes.length, words_or_null(&starts), starts.length, words_or_null(&heads), heads.length,
+                    words_or_null(&costs), costs.length, numbers);
+    size_t lent[3] = {starts.length, heads.length, costs.length};
+    struct plain_fault fault = plain_read(bytes_of(&bytes), bytes.length, lent, &file);
+    uint64_t expected[ROOSTERNOW_READ_NUMBERS] = {fault.number, fault.place, 0, 0, 0, 0, 0};
+    bool accepted = fault.number == 0;
+    if (accepted) {
+        expected[2] = file.n, expected[3] = file.m, expected[4] = file.ceiling, expected[5] = file.source, expected[6] = file.K;
+    }
+    told[READ][fault.number]++;
+    compare(&run_numbers, expected, ROOSTERNOW_READ_NUMBERS, "read: numbers");
+    compare(&bytes, NULL, 0, "read: bytes changed");
+    compare(&starts, file.starts, accepted ? (size_t)file.n + 1 : 0, "read: starts");
+    compare(&heads, file.heads, accepted ? file.m : 0, "read: heads");
+    compare(&costs, file.costs, accepted ? file.m : 0, "read: costs");
+}
+
+/* ---- the text */
+
+static void compare_answer(struct plain_fault fault, size_t length) {
+    static const uint32_t zeros[ROOSTERNOW_ANSWER_WORK];
+    static char text[ROOSTERNOW_ANSWER_BYTES + 64];
+    static struct plain_run one;
+    bool accepted = fault.number == 0;
+    size_t expected, n = accepted ? file.n : 0, m = accepted ? file.m : 0;
+    if (accepted) {
+        map.n = file.n, map.ceiling = file.ceiling, map.source = file.source;
+        map.starts = file.starts, map.heads = file.heads, map.costs = file.costs;
+        expect(plain_plan(&map, false, 0, &one) && plain_plan(&map, true, file.K, &run), "plain.h: the smallest node is not in the lowest bucket");
+        expected = plain_text(text, sizeof text, &file, &one, &run);
+    } else {
+        expected = (size_t)snprintf(text, sizeof text, "refused,%" PRIu64 ",%" PRIu64 "\n", fault.number, fault.place);
+    }
+    expect(length == expected, "answer: length");
+    compare(&output, text, expected, "answer: text");
+    compare(&bytes, NULL, 0, "answer: bytes changed");
+    compare(&starts, file.starts, accepted ? n + 1 : 0, "answer: starts");
+    compare(&heads, file.heads, m, "answer: heads"), compare(&costs, file.costs, m, "answer: costs");
+    compare(&distances, run.distances, n, "answer: distances"), compare(&parents, run.parents, n, "answer: parents");
+    compare(&work, zeros, accepted ? 4 * n + 384 : 0, "answer: work");
+    compare_roster(accepted ? run.reached : 0);
+}
+
+static void call_answer(void) {
+    lend(&starts, ROOSTERNOW_ANSWER_STARTS), lend(&heads, ROOSTERNOW_ANSWER_ARCS), lend(&costs, ROOSTERNOW_ANSWER_ARCS);
+    lend(&distances, ROOSTERNOW_ANSWER_NODES), lend(&parents, ROOSTERNOW_ANSWER_NODES), lend(&roster, ROOSTERNOW_ANSWER_NODES);
+    lend(&work, ROOSTERNOW_ANSWER_WORK), lend(&output, ROOSTERNOW_ANSWER_BYTES);
+    struct list *all[] = {&starts, &heads, &costs, &distances, &parents, &roster, &work, &output};
+    for (size_t i = 0; i < sizeof all / sizeof all[0]; i++) keep(all[i]);
+    size_t length = roosternow_answer(bytes_or_null(), bytes.length, words_of(&starts), words_of(&heads), words_of(&costs), words_of(&distances),
+                                      words_of(&parents), words_of(&roster), words_of(&work), bytes_of(&output));
+    static const size_t lent[3] = {ROOSTERNOW_ANSWER_STARTS, ROOSTERNOW_ANSWER_ARCS, ROOSTERNOW_ANSWER_ARCS};
+    struct plain_fault fault = plain_fault(13, 0);
+    if (bytes.length <= ROOSTERNOW_ANSWER_INPUT) fault = plain_read(bytes_of(&bytes), bytes.length, lent, &file);
+    told[ANSWER][fault.number]++;
+    compare_answer(fault, length);
+}
+
+/* A map for the text: small, at the edge of the fixed sizes, or past 65,536 bytes. */
+static void draw_map_for_answer(void) {
+    if (one_in(200)) draw_map(510 + below(5), 2046 + below(5));
+    else if (one_in(1000)) draw_map(1 + below(PLAIN_NODES), 8000);
+    else draw_some_map(false);
+    if (one_in(4)) damage_map();
+}
+
+/* ---- several threads at once, over lists that are only read */
+
+struct worker {
+    const struct plain_run *expected;
+    bool right;
+};
+
+static void *work_on(void *argument) {
+    struct worker *worker = argument;
+    uint32_t *own = malloc(4 * (3 * (size_t)map.n + ROOSTERNOW_WORK_TWO_LEVEL(map.n)));
+    uint64_t numbers[ROOSTERNOW_RUN_NUMBERS];
+    worker->right = own != NULL;
+    for (int i = 0; own && i < 200; i++) {
+        uint32_t n = map.n;
+        roosternow_two_level(n, map.ceiling, map.source, segments, map.starts, map.starts_words, map.heads, map.heads_words, map.costs,
+                             map.costs_words, own, n, own + n, n, own + 2 * n, n, own + 3 * n, ROOSTERNOW_WORK_TWO_LEVEL(n), numbers);
+        worker->right = worker->right && numbers[0] == 0 && numbers[6] == worker->expected->looks;
+        worker->right = worker->right && memcmp(own, worker->expected->distances, 4 * (size_t)n) == 0;
+        worker->right = worker->right && memcmp(own + n, worker->expected->parents, 4 * (size_t)n) == 0;
+    }
+    free(own);
+    return NULL;
+}
+
+static void call_from_threads(void) {
+    struct worker workers[4];
+    pthread_t threads[4];
+    draw_map(500, 4000), settle_map();
+    expect(plain_plan(&map, true, segments, &run), "plain.h: the smallest node is not in the lowest bucket");
+    for (int i = 0; i < 4; i++) {
+        workers[i].expected = &run;
+        expect(pthread_create(&threads[i], NULL, work_on, &workers[i]) == 0, "no thread");
+    }
+    for (int i = 0; i < 4; i++) {
+        pthread_join(threads[i], NULL);
+        expect(workers[i].right, "threads: another answer");
+    }
+}
+
+/* ---- all */
+
+/* Every refusal that a function can make has to be seen, as rows of document 01's table. */
+static void report(uint64_t inputs) {
+    static const uint32_t possible[FUNCTIONS] = {0x5FF, 0x7FF, 0x3C4FB, 0x1F9F, 0x3F9F};
+    for (int function = 0; function < FUNCTIONS; function++) {
+        uint64_t calls = 0;
+        printf("%-9s", names[function]);
+        for (int number = 0; number < 18; number++) {
+            calls += told[function][number];
+            if (told[function][number]) printf(" %d:%" PRIu64, number, told[function][number]);
+            bool seen = told[function][number] > 0, can = possible[function] >> number & 1;
+            if (inputs >= 100000) expect(seen == can, "a refusal was never told, or one that is not the function's");
+        }
+        printf(" calls:%" PRIu64 "\n", calls);
+        expect(calls >= inputs, "too few calls");
+    }
+}
+
+int main(int count, char **words) {
+    uint64_t inputs = count > 1 ? strtoull(words[1], NULL, 10) : 100000;
+    state = count > 2 ? strtoull(words[2], NULL, 10) : UINT64_C(88172645463325252);
+    make_lists();
+    for (input = 0; input < inputs; input++) {
+        bool large = input % 10000 == 0;
+        draw_some_map(large);
+        while (!large && one_in(3)) damage_map();
+        settle_map();
+        call_run(false, large ? 1000000 : 12);
+        call_route(6);
+        call_run(true, large ? 1000000 : 12);
+        call_route(6);
+        draw_some_map(large);
+        while (!large && one_in(4)) damage_map();
+        draw_file(2);
+        call_read(16);
+        draw_map_for_answer();
+        draw_file(3);
+        call_answer();
+    }
+    call_from_threads();
+    report(inputs);
+    printf("%" PRIu64 " inputs: every answer and every lent word as expected, every guard untouched\n", inputs);
+    free_lists();
+    return 0;
+}
