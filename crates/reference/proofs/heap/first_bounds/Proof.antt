@@ -1,0 +1,26 @@
+-- `reference::heap::first_bounds` meets its contract. The measure: last - i.
+use Prim.Native.Nat.{_-_}
+use borrow.Author.Needs.{needs}
+use Rattle.reference.proofs.heap.first_bounds.Statement.{statement}
+use Rattle.reference.proofs.heap.first_bounds.Tie as tie
+
+abbrev Inv-loop : tie.InvT-loop
+Inv-loop heap bounds₀ last i₀ bounds i = Unit
+
+abbrev μ-loop : tie.MeasureT-loop
+μ-loop heap bounds₀ last i₀ bounds i = last - i
+
+pub first-bounds-spec : {M : Type 1} → statement M
+first-bounds-spec =
+    tie.close
+    (tie.spec
+    Inv-loop
+    μ-loop
+    (λ c. search needs)
+    (λ c κs. search needs)
+    (λ c κs. search needs)
+    (λ c. search needs)
+    (λ c. search needs)
+    (λ c. search needs)
+    (λ c κs. search needs)
+    (λ c. search needs))

@@ -1,0 +1,32 @@
+-- `reference::planfile::print_nodes` meets its contract. The invariant: the list keeps its length. The measure: n - v.
+use Prim.Native.Nat.{_-_}
+use lib.ListN.{length}
+use mathlib.Core.Path.{_≡_}
+use borrow.Author.Needs.{needs}
+use Rattle.reference.proofs.planfile.print_nodes.Statement.{statement}
+use Rattle.reference.proofs.planfile.print_nodes.Tie as tie
+
+abbrev Inv-loop : tie.InvT-loop
+Inv-loop output₀ from n table at₀ v₀ output at v = length output ≡ length output₀
+
+abbrev μ-loop : tie.MeasureT-loop
+μ-loop output₀ from n table at₀ v₀ output at v = n - v
+
+pub print-nodes-spec : {M : Type 1} → statement M
+print-nodes-spec =
+    tie.close
+    (tie.spec
+    Inv-loop
+    μ-loop
+    (λ c. search needs)
+    (λ c κs. search needs)
+    (λ c κs. search needs)
+    (λ c κs. search needs)
+    (λ c κs. search needs)
+    (λ c κs. search needs)
+    (λ c κs. search needs)
+    (λ c. search needs)
+    (λ c. search needs)
+    (λ c. search needs)
+    (λ c. search needs)
+    (λ c. search needs))

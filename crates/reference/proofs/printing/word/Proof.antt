@@ -1,0 +1,31 @@
+-- `reference::printing::word` meets its contract. The invariant: the list keeps its length. The measure: count - i.
+use Prim.Native.Nat.{_-_}
+use lib.ListN.{length}
+use mathlib.Core.Path.{_≡_}
+use borrow.Author.Needs.{needs}
+use Rattle.reference.proofs.printing.word.Statement.{statement}
+use Rattle.reference.proofs.printing.word.Tie as tie
+
+abbrev Inv-loop : tie.InvT-loop
+Inv-loop output₀ at letters count place₀ i₀ output place i = length output ≡ length output₀
+
+abbrev μ-loop : tie.MeasureT-loop
+μ-loop output₀ at letters count place₀ i₀ output place i = count - i
+
+pub word-spec : {M : Type 1} → statement M
+word-spec =
+    tie.close
+    (tie.spec
+    Inv-loop
+    μ-loop
+    (λ c. search needs)
+    (λ c. search needs)
+    (λ c κs. search needs)
+    (λ c κs. search needs)
+    (λ c. search needs)
+    (λ c. search needs)
+    (λ c. search needs)
+    (λ c. search needs)
+    (λ c. search needs)
+    (λ c. search needs)
+    (λ c. search needs))

@@ -1,0 +1,27 @@
+-- `reference::recount::shift_all` meets its contract. The invariant: the list keeps its length. The measure: n - v.
+use Prim.Native.Nat.{_-_}
+use lib.ListN.{length}
+use mathlib.Core.Path.{_≡_}
+use borrow.Author.Needs.{needs}
+use Rattle.reference.proofs.recount.shift_all.Statement.{statement}
+use Rattle.reference.proofs.recount.shift_all.Tie as tie
+
+abbrev Inv-loop : tie.InvT-loop
+Inv-loop heap n bounds table₀ counts₀ j k v₀ table counts v = length table ≡ length table₀
+
+abbrev μ-loop : tie.MeasureT-loop
+μ-loop heap n bounds table₀ counts₀ j k v₀ table counts v = n - v
+
+pub shift-all-spec : {M : Type 1} → statement M
+shift-all-spec =
+    tie.close
+    (tie.spec
+    Inv-loop
+    μ-loop
+    (λ c. search needs)
+    (λ c κs. search needs)
+    (λ c. search needs)
+    (λ c. search needs)
+    (λ c. search needs)
+    (λ c. search needs)
+    (λ c. search needs))

@@ -1,0 +1,26 @@
+-- `trial::lists::uncleared` meets its contract. The measure: end - i.
+use Prim.Native.Nat.{_-_}
+use borrow.Author.Needs.{needs}
+use Rattle.trial.proofs.lists.uncleared.Statement.{statement}
+use Rattle.trial.proofs.lists.uncleared.Tie as tie
+
+abbrev Inv-loop : tie.InvT-loop
+Inv-loop list end found₀ i₀ found i = Unit
+
+abbrev μ-loop : tie.MeasureT-loop
+μ-loop list end found₀ i₀ found i = end - i
+
+pub uncleared-spec : {M : Type 1} → statement M
+uncleared-spec =
+    tie.close
+    (tie.spec
+    Inv-loop
+    μ-loop
+    (λ c. search needs)
+    (λ c κs. search needs)
+    (λ c κs. search needs)
+    (λ c κs. search needs)
+    (λ c. search needs)
+    (λ c. search needs)
+    (λ c. search needs)
+    (λ c. search needs))

@@ -1,0 +1,29 @@
+-- `trial::rendering::render_node` meets its contract. The invariant: the list keeps its length. The measure: end - arc.
+use Prim.Native.Nat.{_-_}
+use lib.ListN.{length}
+use mathlib.Core.Path.{_≡_}
+use borrow.Author.Needs.{needs}
+use Rattle.trial.proofs.rendering.render_node.Statement.{statement}
+use Rattle.trial.proofs.rendering.render_node.Tie as tie
+
+abbrev Inv-loop : tie.InvT-loop
+Inv-loop bytes₀ from v first end heads costs at₀ arc₀ bytes at arc = length bytes ≡ length bytes₀
+
+abbrev μ-loop : tie.MeasureT-loop
+μ-loop bytes₀ from v first end heads costs at₀ arc₀ bytes at arc = end - arc
+
+pub render-node-spec : {M : Type 1} → statement M
+render-node-spec =
+    tie.close
+    (tie.spec
+    Inv-loop
+    μ-loop
+    (λ c. search needs)
+    (λ c κs. search needs)
+    (λ c κs. search needs)
+    (λ c κs. search needs)
+    (λ c. search needs)
+    (λ c. search needs)
+    (λ c. search needs)
+    (λ c. search needs)
+    (λ c. search needs))

@@ -1,0 +1,237 @@
+// The families of maps: how many each has, and the numbers of each map (document 01, "Edges").
+use crate::maps;
+use crate::maps::Map;
+use crate::random;
+
+pub const RANDOM: u32 = 0;
+
+pub const GRIDS: u32 = 1;
+
+pub const CHAINS: u32 = 2;
+
+pub const EQUAL_STARS: u32 = 3;
+
+pub const DISTINCT_STARS: u32 = 4;
+
+pub const ZERO_COSTS: u32 = 5;
+
+pub const TWO_PARTS: u32 = 6;
+
+pub const LOOPS_AND_PARALLELS: u32 = 7;
+
+pub const ALL_DECREASES: u32 = 8;
+
+pub const ONE_NODE: u32 = 9;
+
+pub const NO_ARCS: u32 = 10;
+
+pub const CEILINGS: u32 = 11;
+
+pub const SEGMENTS: u32 = 12;
+
+pub const MOST_NODES: u32 = 13;
+
+pub const MOST_ARCS: u32 = 14;
+
+pub const DAMAGED_PARENTS: u32 = 15;
+
+pub const RUNS_AT_EDGES: u32 = 16;
+
+pub const ROUTES_AT_EDGES: u32 = 17;
+
+pub const PLANNING_FILES: u32 = 18;
+
+pub const DAMAGED_FILES: u32 = 19;
+
+pub const FAMILIES: u32 = 20;
+
+// How many maps a family has.
+pub fn count(family: u32) -> u32 {
+    match family {
+        RANDOM => 1500,
+        GRIDS | CHAINS => 200,
+        EQUAL_STARS | DISTINCT_STARS => 100,
+        ZERO_COSTS | TWO_PARTS | LOOPS_AND_PARALLELS => 200,
+        ALL_DECREASES => 50,
+        ONE_NODE | NO_ARCS => 63,
+        CEILINGS => 250,
+        SEGMENTS => 252,
+        DAMAGED_PARENTS => 500,
+        RUNS_AT_EDGES | ROUTES_AT_EDGES | DAMAGED_FILES => 2000,
+        PLANNING_FILES => 300,
+        _ => 4,
+    }
+}
+
+pub fn print_name(family: u32) {
+    match family {
+        RANDOM => io::write_all(1, b"random"),
+        GRIDS => io::write_all(1, b"grids"),
+        CHAINS => io::write_all(1, b"chains to the last bucket"),
+        EQUAL_STARS => io::write_all(1, b"stars of equal arcs"),
+        DISTINCT_STARS => io::write_all(1, b"stars of distinct arcs"),
+        ZERO_COSTS => io::write_all(1, b"zero costs"),
+        TWO_PARTS => io::write_all(1, b"two parts"),
+        LOOPS_AND_PARALLELS => io::write_all(1, b"self-loops and parallel arcs"),
+        ALL_DECREASES => io::write_all(1, b"every arc a decrease"),
+        ONE_NODE => io::write_all(1, b"n = 1"),
+        NO_ARCS => io::write_all(1, b"m = 0"),
+        CEILINGS => io::write_all(1, b"C = 0 1 7 8 1048575"),
+        SEGMENTS => io::write_all(1, b"K = 2 to 64"),
+        MOST_NODES => io::write_all(1, b"n = 4096"),
+        MOST_ARCS => io::write_all(1, b"m = 65536"),
+        DAMAGED_PARENTS => io::write_all(1, b"routes over damaged parents"),
+        RUNS_AT_EDGES => io::write_all(1, b"runs at the edges of refusals"),
+        ROUTES_AT_EDGES => io::write_all(1, b"routes at the edges of refusals"),
+        PLANNING_FILES => io::write_all(1, b"planning files"),
+        _ => io::write_all(1, b"damaged planning files"),
+    }
+    ;
+}
+
+// Costs up to 15, 1,023, 65,535 or 1,048,575, each as often.
+fn any_ceiling(word: u64) -> u32 {
+    let more = random::next(word);
+    match random::below(word, 4) {
+        0 => random::below(more, 16),
+        1 => random::below(more, 1024),
+        2 => random::below(more, 65536),
+        _ => random::below(more, 1048576),
+    }
+}
+
+// The ceilings named in document 01.
+fn edge_ceiling(number: u32) -> u32 {
+    match number % 5 {
+        0 => 0,
+        1 => 1,
+        2 => 7,
+        3 => 8,
+        _ => 1048575,
+    }
+}
+
+// Up to 48 nodes with up to 6 arcs each, by any rule.
+pub fn small(rule: u32, number: u32) -> Map {
+    let seed = random::seed(rule, number);
+    let second = random::next(seed);
+    let third = random::next(second);
+    let fourth = random::next(third);
+    let nodes = random::below(seed, 48) % 48 + 1;
+    Map {
+        rule,
+        nodes,
+        ceiling: any_ceiling(second),
+        source: random::below(third, nodes),
+        segments: random::below(fourth, 63) % 63 + 2,
+        measure: random::below(random::next(fourth), 6) % 6 + 1,
+        seed: random::next(fourth),
+    }
+}
+
+// From node 0 on, and numbered.
+fn from_first(rule: u32, number: u32) -> Map {
+    let mut map = small(rule, number);
+    map.source = 0;
+    map.measure = number;
+    if rule == maps::DISTINCT_STAR {
+        map.ceiling = map.nodes;
+    }
+    map
+}
+
+// 2 to 50 nodes, and last the most that have no more than 65,536 arcs. The costs grow with the nodes.
+fn all_decreases(number: u32) -> Map {
+    let mut map = small(maps::ALL_DECREASES, number);
+    let size = number % 50;
+    map.source = 0;
+    map.nodes = size + 2;
+    map.measure = size * 200 + 1;
+    map.ceiling = 1048575;
+    if size == 49 {
+        map.nodes = 362;
+        map.measure = 1454;
+    }
+    map
+}
+
+fn one_node(number: u32) -> Map {
+    let mut map = small(maps::RANDOM, number);
+    map.nodes = 1;
+    map.source = 0;
+    map.segments = number % 63 + 2;
+    map
+}
+
+// Random maps of a ceiling or of a K.
+fn with_ceiling(number: u32) -> Map {
+    let mut map = small(maps::RANDOM, number);
+    map.ceiling = edge_ceiling(number);
+    map
+}
+
+fn with_segments(number: u32) -> Map {
+    let mut map = small(maps::RANDOM, number);
+    map.segments = number % 63 + 2;
+    map
+}
+
+// A map of 4,096 nodes and the largest costs: a chain, whose last distance is the largest of all, then others.
+fn most_nodes(number: u32) -> Map {
+    let mut map = small(maps::CHAIN, number);
+    map.nodes = 4096;
+    map.ceiling = 1048575;
+    map.source = 0;
+    map.measure = 64;
+    match number {
+        0 => map.rule = maps::CHAIN,
+        1 => map.rule = maps::GRID,
+        2 => map.rule = maps::EQUAL_STAR,
+        _ => map.rule = maps::RANDOM,
+    }
+    if number == 3 {
+        map.measure = 4;
+    }
+    map
+}
+
+// A map of 65,536 arcs: the fewer nodes, the more arcs at each.
+fn most_arcs(number: u32) -> Map {
+    let mut map = small(maps::SAME_DEGREE, number);
+    map.source = 0;
+    map.ceiling = edge_ceiling(number % 5 + 1);
+    match number {
+        0 => map.nodes = 64,
+        1 => map.nodes = 256,
+        2 => map.nodes = 1024,
+        _ => map.nodes = 4096,
+    }
+    match number {
+        0 => map.measure = 1024,
+        1 => map.measure = 256,
+        2 => map.measure = 64,
+        _ => map.measure = 16,
+    }
+    map
+}
+
+// The map of a family and its number.
+pub fn map_of(family: u32, number: u32) -> Map {
+    match family {
+        GRIDS => small(maps::GRID, number),
+        CHAINS => from_first(maps::CHAIN, number),
+        EQUAL_STARS => from_first(maps::EQUAL_STAR, number),
+        DISTINCT_STARS => from_first(maps::DISTINCT_STAR, number),
+        ZERO_COSTS => small(maps::ZERO_COSTS, number),
+        TWO_PARTS => small(maps::TWO_PARTS, number),
+        LOOPS_AND_PARALLELS => small(maps::LOOPS_AND_PARALLELS, number),
+        ALL_DECREASES => all_decreases(number),
+        ONE_NODE => one_node(number),
+        NO_ARCS => small(maps::NO_ARCS, number),
+        CEILINGS => with_ceiling(number),
+        SEGMENTS => with_segments(number),
+        MOST_NODES => most_nodes(number),
+        MOST_ARCS => most_arcs(number),
+        _ => small(maps::RANDOM, number),
+    }
+}
