@@ -10,7 +10,7 @@
 //     words[heads + slots .. )          only if a bucket has several segments: how many nodes each bucket holds
 // Callers see `Linked`, which they keep shut, and `places`, the list of the place words. The limits are those of `Fits`: at most 511
 // slots, so that a slot's number and 1 fit 9 bits, and 4 * n + 32 + slots below 2^32, so that an index fits a word.
-use types::Node;
+use model::Node;
 ghost use mathlib.Core.Path.{_≡_};
 ghost use Prim.Native.Nat.{_+_, _-_, _*_, _≤_, _<_};
 ghost use lib.ListN.{length, getD};

@@ -5,10 +5,10 @@ use native.Mathlib.Nat.{mul-le-mul, le-refl}
 use mathlib.Core.Path.{_≡_, refl, sym, _∙_, ap, subst}
 use mathlib.Core.List.{List, [], _∷_, List·Memᴰ, List·Memᴰ·not-nil}
 use lib.ListN.{length}
-use Rattle.types.specs.declared.Check.{Check}
-use Rattle.types.specs.declared.Check.the-variants.{Passed}
-use Rattle.types.specs.declared.RunAnswer.{RunAnswer}
-use Rattle.types.specs.Answers.{Numbers, numbersOf, acceptedNumbers}
+use Rattle.model.specs.declared.Check.{Check}
+use Rattle.model.specs.declared.Check.the-variants.{Passed}
+use Rattle.model.specs.declared.RunAnswer.{RunAnswer}
+use Rattle.model.specs.Answers.{Numbers, numbersOf, acceptedNumbers}
 use Rattle.theory.specs.Maps.{Map, mapOf, arcs, Route}
 use Rattle.theory.specs.Shape.{oneLevelBuckets, twoLevelBuckets}
 use Rattle.theory.specs.Heap.{Heap, placements}

@@ -4,9 +4,9 @@ use mathlib.Core.Path.{_≡_}
 use mathlib.Core.List.{List, [], _∷_, _++_}
 use lib.Dec.{ltb}
 use lib.ListN.{length, getD, drop}
-use Rattle.types.specs.declared.Check.{Check}
-use Rattle.types.specs.declared.Check.the-variants.{Passed, Fault}
-use Rattle.types.specs.Answers as answers
+use Rattle.model.specs.declared.Check.{Check}
+use Rattle.model.specs.declared.Check.the-variants.{Passed, Fault}
+use Rattle.model.specs.Answers as answers
 use Rattle.theory.specs.Shape.{oneLevelBuckets, twoLevelBuckets}
 use Rattle.checks.specs.Checks.{faultIf, firstFault, nodesCheck, headCountCheck, ceilingCheck, segmentsCheck}
 use Rattle.fields.specs.Fields.{Line, NoLine, Numbers, comma, line, renderLine}

@@ -1,13 +1,13 @@
 // From a line n,m,C,K to the most heap operations of both heaps (demand 3).
 use checks::numbers;
 use fields::LineRead;
-use types::Check;
+use model::Check;
 ghost use mathlib.Core.Path.{_≡_};
 ghost use mathlib.Core.List.{[], _∷_, _++_};
 ghost use Prim.Native.Nat.{_+_, _-_, _*_, _≤_};
 ghost use lib.Dec.{ltb};
 ghost use lib.ListN.{length, drop};
-ghost use Rattle.types.specs.declared.Check.the-variants.{Passed};
+ghost use Rattle.model.specs.declared.Check.the-variants.{Passed};
 ghost use Rattle.checks.specs.Checks.{faultIf, firstFault};
 ghost use Rattle.fields.specs.Writing.{Writes};
 ghost use Rattle.budgets.specs.Budget.{mostReached, Small, sizeChecks, boundsLine, sizeText, budgetText};

@@ -5,8 +5,8 @@ use mathlib.Core.List.{List, [], _∷_, _++_}
 use mathlib.Core.Logic.{_⊎_, inl, inr}
 use Prim.Native.Nat.{ℕ, zero, suc, _≤_}
 use native.Mathlib.Omega.{arith}
-use Rattle.types.specs.declared.Check.{Check}
-use Rattle.types.specs.declared.Check.the-variants.{Passed, Fault}
+use Rattle.model.specs.declared.Check.{Check}
+use Rattle.model.specs.declared.Check.the-variants.{Passed, Fault}
 use Rattle.checks.specs.Checks.{faultIf, leastFault, firstFault, sizeChecks, startsCheck, headsCheck, costsCheck, Lent, lentChecks, runLists, oneLevelWork, twoLevelWork, mapChecks, oneLevelChecks, twoLevelChecks}
 use Rattle.checks.proofs.Order.{Every, none, more}
 

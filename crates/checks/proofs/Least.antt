@@ -4,7 +4,7 @@ use mathlib.Core.Bool.{Bool, true, false, cond}
 use Prim.Native.Nat.{ℕ, zero, suc, _+_, _<_}
 use native.Mathlib.Nat.{add-zero, zero-add}
 use native.Mathlib.Omega.{arith}
-use Rattle.types.specs.declared.Check.the-variants.{Passed, Fault}
+use Rattle.model.specs.declared.Check.the-variants.{Passed, Fault}
 use Rattle.checks.specs.Checks.{leastFault}
 
 module _ (number : ℕ) (fails : ℕ → Bool) where

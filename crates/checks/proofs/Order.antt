@@ -3,8 +3,8 @@ use Prim.Native.Nat.{ℕ}
 use native.Mathlib.Omega.{arith}
 use mathlib.Core.Path.{_≡_, refl, sym, ap, ap₂, _∙_}
 use mathlib.Core.List.{List, [], _∷_, _++_}
-use Rattle.types.specs.declared.Check.{Check}
-use Rattle.types.specs.declared.Check.the-variants.{Passed, Fault}
+use Rattle.model.specs.declared.Check.{Check}
+use Rattle.model.specs.declared.Check.the-variants.{Passed, Fault}
 use Rattle.checks.specs.Checks.{firstFault}
 
 -- ---- a check that the code makes of several

@@ -5,7 +5,7 @@ use Prim.Native.Nat.{ℕ, _+_, _≤_, _<_}
 use native.Mathlib.Omega.{arith}
 use lib.Dec.{ltb, eqb}
 use borrow.Author.Tests.{ltb-false, leb-false, eqb-true, not-false, le-ltb, lt-leb, eq-eqb}
-use Rattle.types.specs.declared.Check.the-variants.{Passed}
+use Rattle.model.specs.declared.Check.the-variants.{Passed}
 use Rattle.checks.specs.Checks.{faultIf, sizeChecks, ceilingCheck, sourceCheck, headCountCheck, arcCountCheck, startCountCheck, lentCheck}
 use Rattle.checks.proofs.Order.{AllPass, none, more}
 use Rattle.checks.proofs.Tests.{or-left, or-right, or-neither}

@@ -8,7 +8,7 @@ use native.Mathlib.Omega.{arith}
 use lib.Dec.{ltb, eqb}
 use lib.ListN.{length, getD}
 use borrow.Author.Tests.{ltb-true, ltb-false, eqb-true, not-false, lt-ltb, le-ltb, eq-eqb, ne-eqb}
-use Rattle.types.specs.declared.Check.the-variants.{Passed}
+use Rattle.model.specs.declared.Check.the-variants.{Passed}
 use Rattle.checks.specs.Checks.{startFails, startsCheck, NoneFalls}
 use Rattle.checks.proofs.Least.{each-passes, passed-each}
 use Rattle.checks.proofs.Tests.{or-left, or-right, or-neither, or-turned, or-false, and-second, and-not}

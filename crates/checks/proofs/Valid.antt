@@ -5,7 +5,7 @@ use Prim.Native.Nat.{ℕ, suc, _+_, _-_, _≤_}
 use native.Mathlib.Numerals.{add-one}
 use native.Mathlib.Omega.{arith}
 use lib.ListN.{length}
-use Rattle.types.specs.declared.Check.the-variants.{Passed}
+use Rattle.model.specs.declared.Check.the-variants.{Passed}
 use Rattle.theory.specs.Maps.{mapOf, Valid}
 use Rattle.checks.specs.Checks.{NoneFalls, firstFault, segmentsCheck, sizeChecks, mapChecks, lentChecks, runLists, oneLevelWork, twoLevelWork, oneLevelChecks, twoLevelChecks}
 use Rattle.checks.proofs.Order.{AllPass, none, more, passed-all, all-passed, first-passed, rest-pass, pass-parts, parts-pass}

@@ -5,7 +5,7 @@ use Prim.Native.Nat.{ℕ, _<_}
 use lib.Dec.{ltb, leb}
 use lib.ListN.{length, getD}
 use borrow.Author.Tests.{ltb-false, leb-false, le-ltb, lt-leb}
-use Rattle.types.specs.declared.Check.the-variants.{Passed}
+use Rattle.model.specs.declared.Check.the-variants.{Passed}
 use Rattle.checks.specs.Checks.{aboveCheck, headsCheck, costsCheck, NoneAbove}
 use Rattle.checks.proofs.Least.{each-passes, passed-each}
 

@@ -1,6 +1,6 @@
 // The checks of what a call is given, in the order of each entry point (document 01, "What a call returns").
-use types::Check;
-use types::Node;
+use model::Check;
+use model::Node;
 ghost use mathlib.Core.Path.{_≡_};
 ghost use mathlib.Core.List.{[], _∷_};
 ghost use Rattle.checks.specs.Checks.{firstFault, sizeChecks, mapChecks, runLists, lentChecks, oneLevelChecks, twoLevelChecks};

@@ -1,6 +1,6 @@
 // Numbers 7 and 8: words above a limit (document 01, "What a call returns"). A pass that only gathers whether there is one
 // compiles to packed instructions; its index is looked for only then.
-use types::Check;
+use model::Check;
 ghost use mathlib.Core.Path.{_≡_};
 ghost use mathlib.Core.Bool.{false};
 ghost use Prim.Native.Nat.{_<_};

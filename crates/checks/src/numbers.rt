@@ -1,6 +1,6 @@
 // Numbers 1 to 5, 9 and 10, which look at no word of a list (document 01, "What a call returns").
-use types::Check;
-use types::Node;
+use model::Check;
+use model::Node;
 ghost use mathlib.Core.Path.{_≡_};
 ghost use Rattle.checks.specs.Checks.{faultIf, nodesCheck, ceilingCheck, sourceCheck, headCountCheck, arcCountCheck, startCountCheck, segmentsCheck, lentCheck};
 

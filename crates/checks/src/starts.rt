@@ -1,6 +1,6 @@
 // Number 6: starts that rise from 0 to m (document 01, "What a call returns"). One pass gathers whether a word falls; the
 // index of a fault is looked for only when there is one.
-use types::Check;
+use model::Check;
 ghost use mathlib.Core.Path.{_≡_};
 ghost use mathlib.Core.Bool.{false};
 ghost use Prim.Native.Nat.{_+_, _<_};

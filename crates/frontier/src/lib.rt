@@ -6,7 +6,7 @@
 //     words[4n + 24 .. 4n + 28) the summary of the bits
 //     words[4n + 32 .. )        the lists' heads and counts
 // Callers keep `Frontier` shut and go by the place words.
-use types::Node;
+use model::Node;
 ghost use mathlib.Core.Path.{_≡_};
 ghost use Prim.Native.Nat.{_<_, _≤_};
 ghost use lib.ListN.{getD};

@@ -1,8 +1,8 @@
 // Placements of nodes: insertions and decreases, and the relaxation of an arc that makes them (document 01, "The search" and "The tallies").
+use model::Arc;
+use model::Node;
 use state::Layout;
 use state::State;
-use types::Arc;
-use types::Node;
 ghost use mathlib.Core.Path.{_≡_};
 ghost use mathlib.Core.List.{List, _∷_};
 ghost use Prim.Native.Nat.{ℕ, _+_};

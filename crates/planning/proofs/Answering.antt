@@ -9,9 +9,9 @@ use lib.Dec.{ltb}
 use lib.ListN.{length, take, drop}
 use lib.Seq.{take-at}
 use borrow.Author.Tests.{lt-ltb, le-ltb}
-use Rattle.types.specs.declared.Check.{Check}
-use Rattle.types.specs.declared.Check.the-variants.{Passed, Fault}
-use Rattle.types.specs.declared.Node.{Node}
+use Rattle.model.specs.declared.Check.{Check}
+use Rattle.model.specs.declared.Check.the-variants.{Passed, Fault}
+use Rattle.model.specs.declared.Node.{Node}
 use Rattle.theory.specs.Maps.{mapOf, Valid}
 use Rattle.theory.specs.Runs.{oneLevelRun, twoLevelRun}
 use Rattle.theory.proofs.Cases.{differ}

@@ -5,10 +5,10 @@ use mathlib.Core.Path.{_≡_, refl, sym, _∙_, ap, ap₂, subst}
 use mathlib.Core.List.{List, [], _∷_, _++_}
 use lib.ListN.{length, getD, take, drop, replicate, length-replicate, List·getD-append}
 use lib.Seq.{drop-append-seam, drop-append-add, drop-drop}
-use Rattle.types.specs.declared.Check.{Check}
-use Rattle.types.specs.declared.Check.the-variants.{Passed, Fault}
-use Rattle.types.specs.declared.RunAnswer.{RunAnswer}
-use Rattle.types.specs.Answers.{Numbers, numbersOf, acceptedNumbers}
+use Rattle.model.specs.declared.Check.{Check}
+use Rattle.model.specs.declared.Check.the-variants.{Passed, Fault}
+use Rattle.model.specs.declared.RunAnswer.{RunAnswer}
+use Rattle.model.specs.Answers.{Numbers, numbersOf, acceptedNumbers}
 use Rattle.theory.specs.Maps.{Map, mapOf, Valid}
 use Rattle.theory.specs.Shape.{oneLevelBuckets, twoLevelBuckets}
 use Rattle.theory.specs.Heap.{Heap, placements}

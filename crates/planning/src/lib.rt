@@ -1,12 +1,12 @@
 // From the bytes of a planning file to the bytes that `plan` prints (document 01, "Planning file").
+use model::Node;
+use model::RunAnswer;
 use reader::PlanAnswer;
 use report::HeapNumbers;
-use types::Node;
-use types::RunAnswer;
 ghost use mathlib.Core.Path.{_≡_};
 ghost use Prim.Native.Nat.{_+_, _*_, _≤_};
 ghost use lib.ListN.{length, take};
-ghost use Rattle.types.specs.Answers.{numbersOf};
+ghost use Rattle.model.specs.Answers.{numbersOf};
 ghost use Rattle.theory.specs.Maps.{mapOf};
 ghost use Rattle.theory.specs.Runs.{oneLevelRun, twoLevelRun};
 ghost use Rattle.fields.specs.Writing.{Writes};

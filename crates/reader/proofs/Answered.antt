@@ -4,8 +4,8 @@ use mathlib.Core.List.{List, [], _∷_, _++_}
 use Prim.Native.Nat.{ℕ, _+_, _≤_}
 use native.Mathlib.Omega.{arith}
 use lib.ListN.{length, drop}
-use Rattle.types.specs.declared.Check.the-variants.{Passed, Fault}
-use Rattle.types.specs.declared.Node.{Node}
+use Rattle.model.specs.declared.Check.the-variants.{Passed, Fault}
+use Rattle.model.specs.declared.Node.{Node}
 use Rattle.fields.specs.Fields.{Line, NoLine, Numbers, comma, line}
 use Rattle.fields.proofs.Lines.{line-within}
 use Rattle.checks.specs.Checks.{firstFault, lentChecks}

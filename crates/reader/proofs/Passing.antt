@@ -8,8 +8,8 @@ use native.Mathlib.Omega.{arith}
 use lib.Dec.{ltb}
 use lib.ListN.{length, drop, length-drop}
 use lib.Seq.{drop-drop}
-use Rattle.types.specs.declared.Check.{Check}
-use Rattle.types.specs.declared.Check.the-variants.{Passed, Fault}
+use Rattle.model.specs.declared.Check.{Check}
+use Rattle.model.specs.declared.Check.the-variants.{Passed, Fault}
 use Rattle.fields.specs.Fields.{Line, NoLine, Numbers, comma, line}
 use Rattle.fields.proofs.Lines.{line-within}
 use Rattle.checks.specs.Checks.{faultIf, firstFault}

@@ -7,7 +7,7 @@ use native.Mathlib.Numerals.{add-one}
 use native.Mathlib.Omega.{arith}
 use lib.ListN.{length, take, drop, set, replicate, length-append, length-map, length-drop}
 use lib.Seq.{take-at, drop-append-add, drop-drop}
-use Rattle.types.specs.declared.Check.the-variants.{Passed}
+use Rattle.model.specs.declared.Check.the-variants.{Passed}
 use Rattle.reader.specs.declared.ArcLine.the-variants.{NoArc, ArcRead}
 use Rattle.reader.specs.Lines.{arcLine}
 use Rattle.reader.specs.Checking.{arcsCheck}

@@ -5,7 +5,7 @@ use Prim.Native.Nat.{ℕ, suc, _+_, _≤_, _<_}
 use native.Mathlib.Nat.{zero-add}
 use native.Mathlib.Omega.{arith}
 use lib.ListN.{length, drop, length-map}
-use Rattle.types.specs.declared.Check.the-variants.{Passed}
+use Rattle.model.specs.declared.Check.the-variants.{Passed}
 use Rattle.theory.specs.Maps.{mapOf, Valid}
 use Rattle.checks.specs.Checks.{firstFault, lentChecks, oneLevelChecks, oneLevelWork, twoLevelChecks, twoLevelWork}
 use Rattle.checks.proofs.Order.{AllPass, none, more, passed-all}

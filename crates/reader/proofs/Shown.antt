@@ -6,7 +6,7 @@ use native.Mathlib.Omega.{arith}
 use lib.Dec.{ltb, leb}
 use lib.ListN.{length, getD, drop}
 use borrow.Author.Tests.{ltb-false, leb-false}
-use Rattle.types.specs.declared.Check.the-variants.{Passed, Fault}
+use Rattle.model.specs.declared.Check.the-variants.{Passed, Fault}
 use Rattle.checks.proofs.Order.{AllPass, none, more, passed-all}
 use Rattle.checks.proofs.Sizes.{passed-test}
 use Rattle.checks.proofs.Tests.{or-left, or-right}

@@ -4,8 +4,8 @@ use mathlib.Core.Bool.{_||_}
 use mathlib.Core.List.{List, [], _∷_, _++_}
 use lib.Dec.{ltb, leb}
 use lib.ListN.{length, drop}
-use Rattle.types.specs.declared.Check.{Check}
-use Rattle.types.specs.declared.Check.the-variants.{Fault}
+use Rattle.model.specs.declared.Check.{Check}
+use Rattle.model.specs.declared.Check.the-variants.{Fault}
 use Rattle.checks.specs.Checks.{faultIf, firstFault, nodesCheck, headCountCheck, ceilingCheck, sourceCheck, segmentsCheck, Lent, lentChecks}
 use Rattle.reader.specs.declared.ArcLine.{ArcLine}
 use Rattle.reader.specs.declared.ArcLine.the-variants.{NoArc, ArcRead}

@@ -3,7 +3,7 @@ use Prim.Native.Nat.{ℕ, _+_, _-_, _≤_}
 use mathlib.Core.Path.{_≡_}
 use mathlib.Core.List.{List, _++_}
 use lib.ListN.{length, take, drop, replicate}
-use Rattle.types.specs.declared.Check.the-variants.{Passed}
+use Rattle.model.specs.declared.Check.the-variants.{Passed}
 use Rattle.reader.specs.Checking.{arcsCheck}
 use Rattle.reader.specs.Plans.{PlanArc, startsOf, headsOf, costsOf}
 use Rattle.reader.specs.Promise.{planWords}

@@ -1,6 +1,6 @@
 // The reader of planning files (document 01, "Planning file" and "What a call returns").
-use types::Check;
-use types::Node;
+use model::Check;
+use model::Node;
 ghost use Rattle.reader.specs.Promise.{PlanPromised};
 
 mod checking;

@@ -12,7 +12,7 @@ use Rattle.buckets.specs.Words.Laws.{bucket-count, bucket-range}
 use Rattle.buckets.specs.Answer.{InSlot, InBucket, Some, EmptyBucket, FirstOf}
 use Rattle.buckets.specs.declared.Found.{Found}
 use Rattle.buckets.specs.declared.Found.the-variants.{At, Nothing}
-use Rattle.types.specs.declared.Node.{Node}
+use Rattle.model.specs.declared.Node.{Node}
 use Rattle.buckets.specs.Links.Laws.{held-bucket, bucket-slot}
 use Rattle.frontier.specs.Frontier.{Frontier}
 use Rattle.state.specs.declared.Layout.{Layout}

@@ -1,10 +1,10 @@
 // The removal of the node to scan: the node of smallest key, and of smallest number among equals, with the new bounds and the shifts
 // (document 01, "One-level heap", "Two-level heap" and "The tallies").
 use buckets::Found;
+use model::Node;
 use state::Layout;
 use state::State;
 use state::Tally;
-use types::Node;
 ghost use mathlib.Core.Path.{_≡_};
 ghost use mathlib.Core.List.{List};
 ghost use Prim.Native.Nat.{ℕ, _-_, _<_, _≤_};

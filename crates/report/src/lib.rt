@@ -2,8 +2,8 @@
 use fields::writing::put_byte;
 use fields::writing::put_bytes;
 use fields::writing::put_field;
-use types::Arc;
-use types::Node;
+use model::Arc;
+use model::Node;
 ghost use Prim.Native.Nat.{_+_, _*_, _≤_};
 ghost use mathlib.Core.List.{[], _∷_};
 ghost use lib.ListN.{length};

@@ -3,11 +3,11 @@
 use Prim.Native.Nat.{ℕ}
 use mathlib.Core.Path.{_≡_}
 use mathlib.Core.List.{List, [], _∷_}
-use Rattle.types.specs.declared.RunAnswer.{RunAnswer}
-use Rattle.types.specs.Answers.{Numbers, numbersOf}
+use Rattle.model.specs.declared.RunAnswer.{RunAnswer}
+use Rattle.model.specs.Answers.{Numbers, numbersOf}
 use Rattle.runs.specs.Promise.{Lent, OneLevelPromised, TwoLevelPromised}
-use Rattle.routes.specs.declared.RouteAnswer.{RouteAnswer}
-use Rattle.routes.specs.Routes.{RouteNumbers, routeNumbersOf, RoutePromised}
+use Rattle.route.specs.declared.RouteAnswer.{RouteAnswer}
+use Rattle.route.specs.Routes.{RouteNumbers, routeNumbersOf, RoutePromised}
 use Rattle.reader.specs.declared.PlanAnswer.{PlanAnswer}
 use Rattle.reader.specs.Promise.{PlanNumbers, planNumbersOf, PlanPromised}
 

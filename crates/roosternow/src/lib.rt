@@ -1,13 +1,13 @@
 // The interface for C (include/roosternow.h): each function hands numbers and lists to an entry point, and writes what it answers to a
 // lent array of fixed size (document 01, "What a call returns").
+use model::Node;
+use model::RunAnswer;
 use reader::PlanAnswer;
-use routes::RouteAnswer;
-use types::Node;
-use types::RunAnswer;
+use route::RouteAnswer;
 ghost use mathlib.Core.Path.{_≡_};
-ghost use Rattle.types.specs.Answers.{numbersOf};
+ghost use Rattle.model.specs.Answers.{numbersOf};
 ghost use Rattle.runs.specs.Promise.{lent};
-ghost use Rattle.routes.specs.Routes.{routeNumbersOf};
+ghost use Rattle.route.specs.Routes.{routeNumbersOf};
 ghost use Rattle.reader.specs.Promise.{planNumbersOf};
 ghost use Rattle.planning.specs.Planning.{planLists, PlanningPromised};
 ghost use Rattle.roosternow.specs.Handing.{runWords, routeWords, readWords, OneLevelHanded, TwoLevelHanded, RouteHanded, ReadHanded};
@@ -152,7 +152,7 @@ pub extern "C" fn roosternow_route(
     ensures { λ _. ⌜ RouteHanded n source (now (starts .entry)) (now (heads .entry)) (now (parents .entry)) destination
         (now (route .entry)) (now (route .exit)) (now (numbers .exit)) ⌝ }
 {
-    let answer = routes::route(
+    let answer = route::route(
         n,
         Node(source),
         starts,

@@ -1,9 +1,9 @@
 // Routes over the parents of runs, over damaged parents and at the edge of every refusal (document 01, "Routes" and "What a call
 // returns"). Each run gives a line: number, place, r and the sums of its parents. Each case gives a line: number, place, nodes and the
 // sums of the whole route list, the words past those lent included.
-use routes::RouteAnswer;
-use types::Node;
-use types::RunAnswer;
+use model::Node;
+use model::RunAnswer;
+use route::RouteAnswer;
 ghost use Prim.Native.Nat.{_≤_};
 
 // A case is a row of 13 numbers: n, source and destination; the words lent of starts, heads, parents and route; then two words that are
@@ -401,7 +401,7 @@ fn lend(
     route: &mut [u32],
 ) -> RouteAnswer {
     let in_route = least(row[6], route.len());
-    routes::route(
+    route::route(
         row[0],
         Node(row[1]),
         prefix(starts, row[3]),

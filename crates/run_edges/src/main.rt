@@ -1,8 +1,8 @@
 // Both runs on the listing, on the largest maps and at the edge of every refusal (document 01, "What a call returns" and "Edges"). Each
 // case gives two lines for the one-level run and two for the two-level run: the answer's seven numbers, then the sums of the four lent
 // lists, the words past those a run fills included.
-use types::Node;
-use types::RunAnswer;
+use model::Node;
+use model::RunAnswer;
 ghost use Prim.Native.Nat.{_≤_};
 
 // A case is a row of 14 numbers: n, C, source and K; the words lent of starts, heads, costs, distances, parents, roster and work; then

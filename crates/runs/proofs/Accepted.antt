@@ -6,10 +6,10 @@ use mathlib.Core.Path.{_≡_, refl, sym, _∙_, ap}
 use mathlib.Core.List.{List, _++_}
 use lib.ListN.{length, take, drop, replicate, length-replicate}
 use lib.Seq.{length-take-le}
-use Rattle.types.specs.declared.Check.{Check}
-use Rattle.types.specs.declared.Check.the-variants.{Passed, Fault}
-use Rattle.types.specs.declared.RunAnswer.{RunAnswer}
-use Rattle.types.specs.Answers.{numbersOf, acceptedNumbers, refusedNumbers}
+use Rattle.model.specs.declared.Check.{Check}
+use Rattle.model.specs.declared.Check.the-variants.{Passed, Fault}
+use Rattle.model.specs.declared.RunAnswer.{RunAnswer}
+use Rattle.model.specs.Answers.{numbersOf, acceptedNumbers, refusedNumbers}
 use Rattle.theory.specs.Maps.{Map, Valid, arcs, mapOf}
 use Rattle.theory.specs.Network.{network}
 use Rattle.theory.specs.Shape.{oneLevelBuckets, twoLevelBuckets, oneLevel, twoLevel}

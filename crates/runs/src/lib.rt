@@ -1,14 +1,14 @@
 // The two runs that callers use: each makes its own checks, plans with the shared core, and leaves its work words at 0 (document 01,
 // "What the planner holds and leaves out" and "What a call returns").
+use model::Check;
+use model::Node;
+use model::RunAnswer;
 use state::Layout;
 use state::State;
-use types::Check;
-use types::Node;
-use types::RunAnswer;
 ghost use mathlib.Core.Path.{_≡_};
 ghost use Prim.Native.Nat.{_+_, _*_, _≤_, _<_};
-ghost use Rattle.types.specs.declared.Check.the-variants.{Passed};
-ghost use Rattle.types.specs.Answers.{numbersOf, acceptedNumbers};
+ghost use Rattle.model.specs.declared.Check.the-variants.{Passed};
+ghost use Rattle.model.specs.Answers.{numbersOf, acceptedNumbers};
 ghost use Rattle.theory.specs.Maps.{mapOf};
 ghost use Rattle.theory.specs.Heap.{heap};
 ghost use Rattle.state.specs.Stands.{Setting};
@@ -23,7 +23,7 @@ fn answer(state: State, buckets: u32) -> RunAnswer
         (state .tally .insertions + state .tally .decreases + state .tally .shifts) (state .tally .looks) ⌝ }
 {
     let tally = state.tally;
-    types::accepted_run(
+    model::accepted_run(
         state.reached,
         buckets,
         tally.decreases,
@@ -149,7 +149,7 @@ pub fn one_level(
         work.len(),
     );
     if let Check::Fault { number, place } = check {
-        return types::refused_run(number, place);
+        return model::refused_run(number, place);
     }
     one_level_steps(
         n,
@@ -245,7 +245,7 @@ pub fn two_level(
         work.len(),
     );
     if let Check::Fault { number, place } = check {
-        return types::refused_run(number, place);
+        return model::refused_run(number, place);
     }
     two_level_steps(
         n,

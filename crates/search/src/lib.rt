@@ -1,9 +1,9 @@
 // The start of a run and the scan of a node (document 01, "The search").
+use model::Arc;
+use model::Node;
 use state::Layout;
 use state::State;
 use state::Tally;
-use types::Arc;
-use types::Node;
 ghost use mathlib.Core.Path.{_≡_};
 ghost use mathlib.Core.List.{List};
 ghost use Prim.Native.Nat.{ℕ};

@@ -2,12 +2,12 @@
 use crate::case;
 use crate::case::Case;
 use crate::lists;
+use model::Node;
+use model::RunAnswer;
 use reference::expected;
 use reference::expected::Expected;
 use reference::nodes;
 use reference::words;
-use types::Node;
-use types::RunAnswer;
 
 // The kinds of junk.
 const DISTANCES: u64 = 1;

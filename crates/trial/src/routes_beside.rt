@@ -2,12 +2,12 @@
 use crate::case::Case;
 use crate::lists;
 use crate::random;
+use model::Node;
 use reference::nodes;
 use reference::walk;
 use reference::walk::Walk;
 use reference::words;
-use routes::RouteAnswer;
-use types::Node;
+use route::RouteAnswer;
 
 // The kind of junk.
 const ROUTE: u64 = 5;
@@ -23,7 +23,7 @@ fn lend(
     route: &mut [u32],
 ) -> RouteAnswer {
     let in_route = lists::least(room, route.len());
-    routes::route(
+    route::route(
         case.nodes,
         Node(case.source),
         starts,

@@ -3,7 +3,7 @@ use mathlib.Core.Path.{sym, _∙_}
 use mathlib.Core.List.{List, [], _∷_}
 use lib.ListN.{length}
 use borrow.Author.Needs.{needs}
-use Rattle.types.specs.declared.Check.{Check}
+use Rattle.model.specs.declared.Check.{Check}
 use Rattle.checks.specs.Checks.{sizeChecks, mapChecks, startsCheck, headsCheck, costsCheck}
 use Rattle.checks.proofs.Order.{AllPass, passed-all, all-passed, one, both, stopped, gone-on}
 use Rattle.checks.proofs.Sizes.{sized}

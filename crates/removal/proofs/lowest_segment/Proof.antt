@@ -1,7 +1,7 @@
 -- `removal::lowest_segment` meets its contract.
 use Prim.Native.Nat.{ℕ, _-_}
 use mathlib.Core.Path.{_≡_}
-use Rattle.types.specs.declared.Node.{Node}
+use Rattle.model.specs.declared.Node.{Node}
 use Rattle.buckets.specs.declared.Found.the-variants.{At, Nothing}
 use Rattle.buckets.specs.Answer.{InSlot}
 use Rattle.state.specs.Slots.{slotOf}

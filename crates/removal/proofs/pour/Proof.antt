@@ -2,7 +2,7 @@
 use Prim.Native.Nat.{ℕ}
 use mathlib.Core.Path.{_≡_}
 use borrow.Author.Needs.{needs}
-use Rattle.types.specs.declared.Node.{Node}
+use Rattle.model.specs.declared.Node.{Node}
 use Rattle.buckets.specs.declared.Found.the-variants.{At, Nothing}
 use Rattle.buckets.specs.Answer.{InSlot}
 use Rattle.removal.specs.Moving.{inSlot}

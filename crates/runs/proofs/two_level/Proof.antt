@@ -2,7 +2,7 @@
 use mathlib.Core.Path.{_≡_, sym, _∙_}
 use Rattle.checks.proofs.Valid.{passed-valid, two-level-passed}
 use Rattle.checks.specs.Checks.{firstFault, twoLevelChecks}
-use Rattle.types.specs.declared.Check.the-variants.{Passed}
+use Rattle.model.specs.declared.Check.the-variants.{Passed}
 use Rattle.runs.proofs.Accepted.{refused-promised, two-ready}
 use borrow.Author.Needs.{needs}
 use Rattle.runs.proofs.two_level.Statement.{statement}

@@ -1,0 +1,36 @@
+-- Document 01's numbers for each case of an answer (document 01, "What a call returns").
+use Prim.Native.Nat.{ℕ}
+use Rattle.model.specs.declared.RunAnswer.{RunAnswer}
+use Rattle.model.specs.declared.RunAnswer.the-variants.{Accepted, Refused}
+
+-- What a run returns (document 01, "What the planner holds and leaves out" and "What a call returns"): number and place, then r,
+-- B, decreases, placements and looks.
+pub record Numbers : Type 0 where
+  pub returned : ℕ
+  pub place : ℕ
+  pub reached : ℕ
+  pub buckets : ℕ
+  pub decreases : ℕ
+  pub placements : ℕ
+  pub looks : ℕ
+
+-- An accepted run returns 0 with place 0 (document 01, "What a call returns").
+abbrev pub acceptedNumbers : (reached buckets decreases placements looks : ℕ) → Numbers
+acceptedNumbers reached buckets decreases placements looks = record {
+  returned = 0;
+  place = 0;
+  reached = reached;
+  buckets = buckets;
+  decreases = decreases;
+  placements = placements;
+  looks = looks;
+}
+
+-- All other numbers of a refusal are 0 (document 01, "What a call returns").
+abbrev pub refusedNumbers : (number place : ℕ) → Numbers
+refusedNumbers number place = record { returned = number; place = place; reached = 0; buckets = 0; decreases = 0; placements = 0; looks = 0 }
+
+-- The numbers of each case of a run's answer (document 01, "What a call returns").
+abbrev pub numbersOf : RunAnswer → Numbers
+numbersOf (Accepted reached buckets decreases placements looks) = acceptedNumbers reached buckets decreases placements looks
+numbersOf (Refused number place) = refusedNumbers number place

@@ -1,0 +1,134 @@
+-- For every accepted run and every node that it reaches, the route by the run's parents is a route of the map, costs the distance, and is
+-- accepted where the list has room. Assumes nothing.
+use Prim.Native.Nat.{ℕ, suc, _+_, _-_, _≤_, _<_}
+use native.Mathlib.Omega.{arith}
+use mathlib.Core.Path.{_≡_, refl, sym, _∙_, ap, subst}
+use mathlib.Core.Bool.{Bool, true, false, cond, not, _&&_}
+use mathlib.Core.Logic.{_≢_, inl, inr}
+use mathlib.Core.List.{List, [], _∷_, _++_}
+use lib.Dec.{ltb, leb, eqb}
+use lib.ListN.{length, getD, drop, length-append, List·getD-append}
+use borrow.Author.Tests.{lt-leb, le-ltb, eq-eqb, ne-eqb}
+use Rattle.model.specs.declared.Check.{Check}
+use Rattle.model.specs.declared.Check.the-variants.{Passed, Fault}
+use Rattle.model.specs.declared.RunAnswer.{RunAnswer}
+use Rattle.theory.specs.Maps.{Map, mapOf, arcs, headOf, Leaves, Route, routeCost, Reached, SpelledRoute, parentOf, distanceOf, Valid}
+use Rattle.theory.specs.Maps as maps
+use Rattle.theory.specs.Demands.{CheapestRoutes}
+use Rattle.theory.proofs.Cases.{same?}
+use Rattle.theory.proofs.Maps.Arcs.{leaves-arc}
+use Rattle.theory.proofs.Maps.Routes.{spelled-route}
+use Rattle.checks.specs.Checks.{faultIf, firstFault, sizeChecks, mapChecks, headCountCheck, oneLevelWork, twoLevelWork, oneLevelChecks, twoLevelChecks}
+use Rattle.checks.proofs.Order.{AllPass, none, more, passed-all, all-passed, parts-pass}
+use Rattle.checks.proofs.Sizes.{passed-arcs, lent-passes}
+use Rattle.checks.proofs.Valid.{passed-valid, valid-passed, one-level-passed, two-level-passed}
+use Rattle.theory.specs.Shape.{oneLevelBuckets, twoLevelBuckets}
+use Rattle.theory.specs.Heap.{Heap}
+use Rattle.runs.specs.Promise.{Lent, Promised, OneLevelPromised, TwoLevelPromised}
+use Rattle.route.specs.Routes.{Walk, Nodes, nodesOf, routeWalk, tableSizeChecks, tableChecks, destinationCheck, parentCheck, walkCheck, roomCheck, routeChecks, nodesAlong, Served}
+use Rattle.route.proofs.Spelled.{along-length, spelled-walk, spelled-node, spelled-short}
+
+-- ---- the checks of a route over a valid map
+
+module _ (n C source : ℕ) (starts heads costs : List ℕ) where
+  table-passes : (parents : ℕ) → n ≤ parents → AllPass (mapChecks n C source starts heads costs) → AllPass (tableChecks n source starts heads parents)
+  unfolding tableSizeChecks tableChecks sizeChecks mapChecks faultIf
+  table-passes parents long (more nodes (more ceiling (more from (more count (more words (more rise (more below (more most none)))))))) =
+      let few = passed-arcs (length heads) (length costs) count .0 in
+      let small : headCountCheck (length heads) ≡ Passed = rw (le-ltb 65536 (length heads) few) refl in
+      more nodes (more from (more small (more words (more rise (more below (more (lent-passes 1 parents n long) none))))))
+
+  pub valid-table : (parents : ℕ) → n ≤ parents → Valid (mapOf n starts heads costs) C source → firstFault (tableChecks n source starts heads parents) ≡ Passed
+  valid-table parents long v =
+      all-passed (table-passes parents long (passed-all (mapChecks n C source starts heads costs) (valid-passed n C source starts heads costs v)))
+
+-- ---- a destination that the parents spell
+
+module _ {n C source : ℕ} {starts heads costs : List ℕ} (valid : Valid (mapOf n starts heads costs) C source) (parents : List ℕ) (long : n ≤ length parents) where
+  abbrev M : Map
+  M = mapOf n starts heads costs
+
+  -- A node that is spelled and is not the source has an arc for its parent.
+  spelled-parent : {v : ℕ} {route : List ℕ} → SpelledRoute M source parents v route → v ≢ source → parentOf parents v ≢ maps.none
+  spelled-parent SpelledRoute.here q e = absurd (q refl)
+  spelled-parent (SpelledRoute.on {t} r a h p k) q e = absurd (omega (arith, leaves-arc valid a t h, valid .few-arcs))
+
+  parent-passes : {v : ℕ} {route : List ℕ} → SpelledRoute M source parents v route → parentCheck source parents v ≡ Passed
+  unfolding faultIf
+  parent-passes {v} r = elim (same? v source) [
+    | inl e ↦ rw (eq-eqb v source e) refl
+    | inr q ↦ rw (ne-eqb v source q, ne-eqb (parentOf parents v) maps.none (spelled-parent r q)) refl
+  ]
+
+  pub spelled-accepted : {v : ℕ} {route : List ℕ} → SpelledRoute M source parents v route → (room : ℕ) → length (nodesAlong M source route) ≤ room
+      → firstFault (routeChecks n source starts heads parents v room) ≡ Passed
+  unfolding faultIf routeChecks
+  spelled-accepted {v} {route} r room l =
+      let walk : routeWalk n source starts heads parents v ≡ Nodes (nodesAlong M source route) = spelled-walk valid parents r (n - 1) (omega (arith, spelled-short valid parents r)) in
+      let node : destinationCheck n v ≡ Passed = rw (lt-leb n v (spelled-node valid parents r)) refl in
+      let there : walkCheck (routeWalk n source starts heads parents v) ≡ Passed = rw walk refl in
+      let space : roomCheck room (routeWalk n source starts heads parents v) ≡ Passed = rw (walk, le-ltb room (length (nodesAlong M source route)) l) refl in
+      parts-pass (tableChecks n source starts heads (length parents))
+      (destinationCheck n v ∷ parentCheck source parents v ∷ walkCheck (routeWalk n source starts heads parents v) ∷ roomCheck room (routeWalk n source starts heads parents v) ∷ [])
+      (valid-table n C source starts heads costs (length parents) long valid)
+      (all-passed (more node (more (parent-passes r) (more there (more space none)))))
+
+  pub spelled-served : (distances : List ℕ) {v : ℕ} {route : List ℕ} → SpelledRoute M source parents v route → routeCost M route ≡ distanceOf distances v → Served M source distances parents v
+  spelled-served distances {v} {route} r e = record {
+    route = route;
+    is-route = spelled-route r;
+    cost = e;
+    nodes = ap nodesOf (spelled-walk valid parents r (n - 1) (omega (arith, spelled-short valid parents r)));
+    accepted = spelled-accepted r;
+  }
+
+-- ---- the parents of a run
+
+-- What the parents of the nodes spell does not depend on the words past them.
+spelled-same : {M : Map} {C source : ℕ} → Valid M C source → (parents parents′ : List ℕ) → ((w : ℕ) → w < M .nodes → parentOf parents′ w ≡ parentOf parents w)
+    → {v : ℕ} {route : List ℕ} → SpelledRoute M source parents v route → SpelledRoute M source parents′ v route
+spelled-same valid parents parents′ same SpelledRoute.here = SpelledRoute.here
+spelled-same {M} valid parents parents′ same (SpelledRoute.on {t} r a h p q) =
+    SpelledRoute.on (spelled-same valid parents parents′ same r) a h (same (headOf M a) (valid .heads-nodes a (leaves-arc valid a t h)) ∙ p) q
+
+route-node : {M : Map} {C source : ℕ} → Valid M C source → {v w : ℕ} {route : List ℕ} → Route M v route w → v < M .nodes → w < M .nodes
+route-node valid Route.here l = l
+route-node {M} valid (Route.along {v} a h r) l = route-node valid r (valid .heads-nodes a (leaves-arc valid a v h))
+
+module _ {n C source : ℕ} {starts heads costs : List ℕ} (valid : Valid (mapOf n starts heads costs) C source) {distances parents : List ℕ}
+    (cheapest : CheapestRoutes (mapOf n starts heads costs) source distances parents) where
+  pub cheapest-served : (distances′ parents′ : List ℕ) (destination : ℕ) → Reached (mapOf n starts heads costs) source destination
+      → Served (mapOf n starts heads costs) source (distances ++ distances′) (parents ++ parents′) destination
+  cheapest-served distances′ parents′ destination reached =
+      let node = route-node valid (reached .1) (valid .source-node) in
+      let finite : distanceOf distances destination ≢ maps.none = λ e. cheapest .unreached destination node .0 e reached in
+      let s = cheapest .spelled destination node finite in
+      let same : distanceOf (distances ++ distances′) destination ≡ distanceOf distances destination =
+      List·getD-append distances distances′ maps.none destination (omega (arith, cheapest .distances-length)) in
+      spelled-served valid (parents ++ parents′) (omega (arith, length-append parents parents′, cheapest .parents-length)) (distances ++ distances′)
+      (spelled-same valid parents (parents ++ parents′)
+      (λ w l. List·getD-append parents parents′ maps.none w (omega (arith, cheapest .parents-length))) (s .1)) (s .2 ∙ sym same)
+
+run-served : {n C source : ℕ} {starts heads costs : List ℕ} → Valid (mapOf n starts heads costs) C source → {check : Check} (B L needed : ℕ) {h : Heap} {r : RunAnswer} {l l′ : Lent}
+    → check ≡ Passed → Promised check (mapOf n starts heads costs) source B L needed h r l l′ → (destination : ℕ) → Reached (mapOf n starts heads costs) source destination
+    → Served (mapOf n starts heads costs) source (l′ .distances) (l′ .parents) destination
+run-served {n} {C} {source} {starts} {heads} {costs} valid {check} B L needed {h} {r} {l} {l′} e P destination reached =
+    let Q = subst (λ (k : Check). Promised k (mapOf n starts heads costs) source B L needed h r l l′) e P in
+    rw (Q .distances, Q .parents)
+    (cheapest-served valid (Q .demanded .cheapest) (drop (length (h .search .distances)) (l .distances)) (drop (length (h .search .parents)) (l .parents)) destination reached)
+
+module _ (n C source : ℕ) (starts heads costs : List ℕ) (l l′ : Lent) {r : RunAnswer} where
+  pub one-level-served : firstFault (oneLevelChecks n C source starts heads costs (length (l .distances)) (length (l .parents)) (length (l .roster)) (length (l .work))) ≡ Passed
+      → OneLevelPromised n C source starts heads costs r l l′ → (destination : ℕ) → Reached (mapOf n starts heads costs) source destination
+      → Served (mapOf n starts heads costs) source (l′ .distances) (l′ .parents) destination
+  one-level-served e P =
+      let p = one-level-passed n C source starts heads costs (length (l .distances)) (length (l .parents)) (length (l .roster)) (length (l .work)) e in
+      run-served (passed-valid n C source starts heads costs (p .0)) (oneLevelBuckets C) (oneLevelBuckets C) (oneLevelWork n) e P
+
+  pub two-level-served : (K : ℕ)
+      → firstFault (twoLevelChecks n C source K starts heads costs (length (l .distances)) (length (l .parents)) (length (l .roster)) (length (l .work))) ≡ Passed
+      → TwoLevelPromised n C source K starts heads costs r l l′ → (destination : ℕ) → Reached (mapOf n starts heads costs) source destination
+      → Served (mapOf n starts heads costs) source (l′ .distances) (l′ .parents) destination
+  two-level-served K e P =
+      let p = two-level-passed n C source starts heads costs (length (l .distances)) (length (l .parents)) (length (l .roster)) (length (l .work)) K e in
+      run-served (passed-valid n C source starts heads costs (p .0)) (twoLevelBuckets C K) (twoLevelBuckets C K + K) (twoLevelWork n) e P
