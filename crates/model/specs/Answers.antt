@@ -1,5 +1,9 @@
 -- Document 01's numbers for each case of an answer (document 01, "What a call returns").
 use Prim.Native.Nat.{ℕ}
+use mathlib.Core.List.{List, _++_}
+use lib.ListN.{length, drop}
+use Rattle.model.specs.declared.Check.{Check}
+use Rattle.model.specs.declared.Check.the-variants.{Passed, Fault}
 use Rattle.model.specs.declared.RunAnswer.{RunAnswer}
 use Rattle.model.specs.declared.RunAnswer.the-variants.{Accepted, Refused}
 
@@ -34,3 +38,9 @@ refusedNumbers number place = record { returned = number; place = place; reached
 abbrev pub numbersOf : RunAnswer → Numbers
 numbersOf (Accepted reached buckets decreases placements looks) = acceptedNumbers reached buckets decreases placements looks
 numbersOf (Refused number place) = refusedNumbers number place
+
+-- A lent list afterwards: its first words are filled and the words past these untouched; a refusal changes none (document 01, "What the
+-- planner holds and leaves out" and "What a call returns").
+abbrev pub wordsAfter : Check → (filled words : List ℕ) → List ℕ
+wordsAfter Passed filled words = filled ++ drop (length filled) words
+wordsAfter (Fault number place) filled words = words

@@ -12,6 +12,7 @@ use borrow.Author.Tests.{lt-ltb, le-ltb}
 use Rattle.model.specs.declared.Check.{Check}
 use Rattle.model.specs.declared.Check.the-variants.{Passed, Fault}
 use Rattle.model.specs.declared.Node.{Node}
+use Rattle.model.specs.Answers.{wordsAfter}
 use Rattle.theory.specs.Maps.{mapOf, Valid}
 use Rattle.theory.specs.Runs.{oneLevelRun, twoLevelRun}
 use Rattle.theory.proofs.Cases.{differ}
@@ -27,7 +28,7 @@ use Rattle.reader.specs.declared.HeaderLine.the-variants.{NoHeader, HeaderRead}
 use Rattle.reader.specs.Lines.{headerLine}
 use Rattle.reader.specs.Checking.{headerChecks, arcsCheck, headerLineCheck, planCheck}
 use Rattle.reader.specs.Plans.{Header, PlanArc, headerNumbers, planHeader, planArcs, planStarts, planHeads, planCosts}
-use Rattle.reader.specs.Promise.{PlanNumbers, planNumbers, planNumbersOf, planWords, wasRead, allPassed, PlanPromised}
+use Rattle.reader.specs.Promise.{PlanNumbers, planNumbers, planNumbersOf, wasRead, allPassed, PlanPromised}
 use Rattle.reader.proofs.Runnable.{read-runnable, runs-one-level, runs-two-level}
 use Rattle.reader.proofs.Runnable as reading
 use Rattle.report.specs.Report.{refusedText}
@@ -88,9 +89,9 @@ module _ (bytes : List ℕ) (short : length bytes ≤ 65536) (L : PlanLists) {ou
       → PlanningPromised bytes L between output output′ written
   read-refused {number} {place} a W =
       let fault = told-fault (planCheck bytes (length (L .starts)) (length (L .heads)) (length (L .costs))) H number place (sym (ap wasRead a) ∙ P .read) (sym (ap planNumbersOf a) ∙ P .numbers) in
-      let s : starts′ ≡ L .starts = P .starts-after ∙ ap (λ (k : Check). planWords k (planStarts bytes) (L .starts)) fault in
-      let h : heads′ ≡ L .heads = P .heads-after ∙ ap (λ (k : Check). planWords k (planHeads bytes) (L .heads)) fault in
-      let c : costs′ ≡ L .costs = P .costs-after ∙ ap (λ (k : Check). planWords k (planCosts bytes) (L .costs)) fault in
+      let s : starts′ ≡ L .starts = P .starts-after ∙ ap (λ (k : Check). wordsAfter k (planStarts bytes) (L .starts)) fault in
+      let h : heads′ ≡ L .heads = P .heads-after ∙ ap (λ (k : Check). wordsAfter k (planHeads bytes) (L .heads)) fault in
+      let c : costs′ ≡ L .costs = P .costs-after ∙ ap (λ (k : Check). wordsAfter k (planCosts bytes) (L .costs)) fault in
       rw (s, h, c) (refused-answered bytes L (check-is bytes short ∙ sym lent-words ∙ fault) W)
 
   -- ---- a file that is read
@@ -119,18 +120,18 @@ module _ (bytes : List ℕ) (short : length bytes ≤ 65536) (L : PlanLists) {ou
 
     starts-read : take (H .nodes + 1) starts′ ≡ planStarts bytes
     starts-read =
-        ap (take (H .nodes + 1)) (P .starts-after ∙ ap (λ (k : Check). planWords k (planStarts bytes) (L .starts)) passed)
+        ap (take (H .nodes + 1)) (P .starts-after ∙ ap (λ (k : Check). wordsAfter k (planStarts bytes) (L .starts)) passed)
         ∙ take-at (planStarts bytes) (drop (length (planStarts bytes)) (L .starts)) (H .nodes + 1)
         (read-runnable bytes _ _ _ passed .valid .starts-length ∙ sym (add-one (H .nodes)))
 
     heads-read : take (H .arcs) heads′ ≡ planHeads bytes
     heads-read =
-        ap (take (H .arcs)) (P .heads-after ∙ ap (λ (k : Check). planWords k (planHeads bytes) (L .heads)) passed)
+        ap (take (H .arcs)) (P .heads-after ∙ ap (λ (k : Check). wordsAfter k (planHeads bytes) (L .heads)) passed)
         ∙ take-at (planHeads bytes) (drop (length (planHeads bytes)) (L .heads)) (H .arcs) (read-runnable bytes _ _ _ passed .heads-count)
 
     costs-read : take (H .arcs) costs′ ≡ planCosts bytes
     costs-read =
-        ap (take (H .arcs)) (P .costs-after ∙ ap (λ (k : Check). planWords k (planCosts bytes) (L .costs)) passed)
+        ap (take (H .arcs)) (P .costs-after ∙ ap (λ (k : Check). wordsAfter k (planCosts bytes) (L .costs)) passed)
         ∙ take-at (planCosts bytes) (drop (length (planCosts bytes)) (L .costs)) (H .arcs) (read-runnable bytes _ _ _ passed .costs-count)
 
     fit : reading.Runnable H (planArcs bytes) (length (L .starts)) (length (L .heads)) (length (L .costs))
@@ -167,9 +168,9 @@ module _ (bytes : List ℕ) (short : length bytes ≤ 65536) (L : PlanLists) {ou
         rw (check-is bytes short ∙ sym lent-words ∙ passed)
         (record {
           text = E .text;
-          starts-after = s ∙ P .starts-after ∙ ap (λ (k : Check). planWords k (planStarts bytes) (L .starts)) passed;
-          heads-after = h ∙ P .heads-after ∙ ap (λ (k : Check). planWords k (planHeads bytes) (L .heads)) passed;
-          costs-after = c ∙ P .costs-after ∙ ap (λ (k : Check). planWords k (planCosts bytes) (L .costs)) passed;
+          starts-after = s ∙ P .starts-after ∙ ap (λ (k : Check). wordsAfter k (planStarts bytes) (L .starts)) passed;
+          heads-after = h ∙ P .heads-after ∙ ap (λ (k : Check). wordsAfter k (planHeads bytes) (L .heads)) passed;
+          costs-after = c ∙ P .costs-after ∙ ap (λ (k : Check). wordsAfter k (planCosts bytes) (L .costs)) passed;
           distances-after = E .distances-after;
           parents-after = E .parents-after;
           roster-after = rw (starts-read, heads-read, costs-read) at (E .roster-after);

@@ -8,7 +8,7 @@ use lib.Seq.{drop-append-seam, drop-append-add, drop-drop}
 use Rattle.model.specs.declared.Check.{Check}
 use Rattle.model.specs.declared.Check.the-variants.{Passed, Fault}
 use Rattle.model.specs.declared.RunAnswer.{RunAnswer}
-use Rattle.model.specs.Answers.{Numbers, numbersOf, acceptedNumbers}
+use Rattle.model.specs.Answers.{Numbers, numbersOf, acceptedNumbers, wordsAfter}
 use Rattle.theory.specs.Maps.{Map, mapOf, Valid}
 use Rattle.theory.specs.Shape.{oneLevelBuckets, twoLevelBuckets}
 use Rattle.theory.specs.Heap.{Heap, placements}
@@ -17,7 +17,7 @@ use Rattle.theory.specs.Runs.{oneLevelRun, twoLevelRun}
 use Rattle.theory.proofs.Demands.{heaps-agree}
 use Rattle.checks.specs.Checks.{firstFault, oneLevelChecks, twoLevelChecks, oneLevelWork, twoLevelWork}
 use Rattle.checks.proofs.Valid.{passed-valid, one-level-passed, two-level-passed}
-use Rattle.runs.specs.Promise.{Lent, Promised, OneLevelPromised, TwoLevelPromised, runWords, RosterFilled, lent}
+use Rattle.runs.specs.Promise.{Lent, Promised, OneLevelPromised, TwoLevelPromised, RosterFilled, lent}
 use Rattle.report.specs.Report.{nodeLine, nodeLines, acceptedText}
 use Rattle.fields.specs.Writing.{Writes}
 use Rattle.fields.proofs.Written.{writes-same}
@@ -28,7 +28,7 @@ use Rattle.planning.specs.Planning.{PlanLists, heapsText, runsText, Runn
 same-twice : (xs ys words : List ℕ) → xs ≡ ys → ys ++ drop (length ys) (xs ++ drop (length xs) words) ≡ xs ++ drop (length xs) words
 same-twice xs ys words e = rw (sym e) (ap (λ (l : List ℕ). xs ++ l) (drop-append-seam xs (drop (length xs) words)))
 
-longer-twice : (a b : ℕ) (words : List ℕ) → a ≤ b → runWords Passed (replicate b 0) (runWords Passed (replicate a 0) words) ≡ runWords Passed (replicate b 0) words
+longer-twice : (a b : ℕ) (words : List ℕ) → a ≤ b → wordsAfter Passed (replicate b 0) (wordsAfter Passed (replicate a 0) words) ≡ wordsAfter Passed (replicate b 0) words
 longer-twice a b words h =
     let first : length {A = ℕ} (replicate a 0) ≡ a = length-replicate a 0 in
     let second : length {A = ℕ} (replicate b 0) ≡ length {A = ℕ} (replicate a 0) + (b - a) = length-replicate b 0 ∙ omega (arith, first) in
@@ -72,10 +72,10 @@ nodes-told (suc v) distances parents distances′ parents′ d p =
 pub record Ran (n C source K : ℕ) (M : Map) (one two : Heap) (r₁ r₂ : RunAnswer) (l l′ : Lent) : Type 0 where
   pub first : numbersOf r₁ ≡ acceptedNumbers (length (one .search .roster)) (oneLevelBuckets C) (one .search .decreases) (placements one) (one .looks)
   pub second : numbersOf r₂ ≡ acceptedNumbers (length (two .search .roster)) (twoLevelBuckets C K) (two .search .decreases) (placements two) (two .looks)
-  pub distances : l′ .distances ≡ runWords Passed (one .search .distances) (l .distances)
-  pub parents : l′ .parents ≡ runWords Passed (one .search .parents) (l .parents)
+  pub distances : l′ .distances ≡ wordsAfter Passed (one .search .distances) (l .distances)
+  pub parents : l′ .parents ≡ wordsAfter Passed (one .search .parents) (l .parents)
   pub roster : RosterFilled M source two (l .roster) (l′ .roster)
-  pub work : l′ .work ≡ runWords Passed (replicate (twoLevelWork n) 0) (l .work)
+  pub work : l′ .work ≡ wordsAfter Passed (replicate (twoLevelWork n) 0) (l .work)
   pub distances-length : length (one .search .distances) ≡ n
   pub parents-length : length (one .search .parents) ≡ n
 
@@ -97,13 +97,13 @@ module _ (n C source K : ℕ) (starts heads costs : List ℕ) where
     first = P .numbers;
     second = Q .numbers;
     distances =
-        Q .distances ∙ ap (runWords Passed (two .search .distances)) (P .distances)
+        Q .distances ∙ ap (wordsAfter Passed (two .search .distances)) (P .distances)
         ∙ same-twice (one .search .distances) (two .search .distances) (l .distances) (ap (λ (s : Search). s .distances) agree);
     parents =
-        Q .parents ∙ ap (runWords Passed (two .search .parents)) (P .parents)
+        Q .parents ∙ ap (wordsAfter Passed (two .search .parents)) (P .parents)
         ∙ same-twice (one .search .parents) (two .search .parents) (l .parents) (ap (λ (s : Search). s .parents) agree);
     roster = roster-twice M source one two (l .roster) (between .roster) (l′ .roster) (ap (λ (s : Search). length (s .roster)) agree) (P .roster) (Q .roster);
-    work = Q .work ∙ ap (runWords Passed (replicate (twoLevelWork n) 0)) (P .work) ∙ longer-twice (oneLevelWork n) (twoLevelWork n) (l .work) (omega arith);
+    work = Q .work ∙ ap (wordsAfter Passed (replicate (twoLevelWork n) 0)) (P .work) ∙ longer-twice (oneLevelWork n) (twoLevelWork n) (l .work) (omega arith);
     distances-length = P .demanded .cheapest .distances-length;
     parents-length = P .demanded .cheapest .parents-length;
   }

@@ -8,17 +8,16 @@ use lib.Dec.{ltb, eqb}
 use lib.ListN.{length, take, replicate}
 use Rattle.model.specs.declared.Check.{Check}
 use Rattle.model.specs.declared.Check.the-variants.{Passed, Fault}
-use Rattle.model.specs.Answers.{Numbers}
+use Rattle.model.specs.Answers.{Numbers, wordsAfter}
 use Rattle.theory.specs.Maps.{Map, mapOf}
 use Rattle.theory.specs.Shape.{oneLevelBuckets, twoLevelBuckets}
 use Rattle.theory.specs.Heap.{Heap, placements}
 use Rattle.theory.specs.Runs.{oneLevelRun, twoLevelRun}
 use Rattle.checks.specs.Checks.{firstFault, oneLevelChecks, twoLevelChecks, twoLevelWork}
-use Rattle.runs.specs.Promise.{runWords, RosterAfter}
+use Rattle.runs.specs.Promise.{RosterAfter}
 use Rattle.fields.specs.Writing.{Writes}
 use Rattle.reader.specs.Checking.{planCheck}
 use Rattle.reader.specs.Plans.{Header, PlanArc, planHeader, planArcs, startsOf, headsOf, costsOf}
-use Rattle.reader.specs.Promise.{planWords}
 use Rattle.report.specs.Report.{refusedText, acceptedText}
 use Rattle.planning.specs.declared.RunNumbers.{RunNumbers}
 
@@ -91,13 +90,13 @@ planLists starts heads costs distances parents roster work = record {
 -- order of equal distances in its roster is left open (document 01, "Planning file" and "What the planner holds and leaves out").
 pub record Answered (check : Check) (header : Header) (arcs : List PlanArc) (l l′ : PlanLists) (output output′ : List ℕ) (bytes : ℕ) : Type 0 where
   pub text : Writes 0 (checkedText check header arcs) output output′ bytes
-  pub starts-after : l′ .starts ≡ planWords check (startsOf (header .nodes) arcs) (l .starts)
-  pub heads-after : l′ .heads ≡ planWords check (headsOf (header .nodes) arcs) (l .heads)
-  pub costs-after : l′ .costs ≡ planWords check (costsOf (header .nodes) arcs) (l .costs)
-  pub distances-after : l′ .distances ≡ runWords check (planOneLevel header arcs .search .distances) (l .distances)
-  pub parents-after : l′ .parents ≡ runWords check (planOneLevel header arcs .search .parents) (l .parents)
+  pub starts-after : l′ .starts ≡ wordsAfter check (startsOf (header .nodes) arcs) (l .starts)
+  pub heads-after : l′ .heads ≡ wordsAfter check (headsOf (header .nodes) arcs) (l .heads)
+  pub costs-after : l′ .costs ≡ wordsAfter check (costsOf (header .nodes) arcs) (l .costs)
+  pub distances-after : l′ .distances ≡ wordsAfter check (planOneLevel header arcs .search .distances) (l .distances)
+  pub parents-after : l′ .parents ≡ wordsAfter check (planOneLevel header arcs .search .parents) (l .parents)
   pub roster-after : RosterAfter check (planMap header arcs) (header .source) (planTwoLevel header arcs) (l .roster) (l′ .roster)
-  pub work-after : l′ .work ≡ runWords check (replicate (twoLevelWork (header .nodes)) 0) (l .work)
+  pub work-after : l′ .work ≡ wordsAfter check (replicate (twoLevelWork (header .nodes)) 0) (l .work)
 
 -- From bytes to bytes, for every input (document 01, "Planning file" and "What a call returns").
 abbrev pub PlanningPromised : (bytes : List ℕ) → (l l′ : PlanLists) → (output output′ : List ℕ) → (written : ℕ) → Type 0
@@ -151,7 +150,7 @@ pub record Runnable (n m C source K : ℕ) (l : PlanLists) : Type 0 where
 -- Both runs of the map in the lists are made and told (document 01, "Planning file").
 pub record BothRun (n m C source K : ℕ) (l l′ : PlanLists) (output output′ : List ℕ) (written : ℕ) (one two : Heap) : Type 0 where
   pub text : Writes 0 (heapsText (record { nodes = n; arcs = m; ceiling = C; source = source; segments = K; length = 0 }) one two) output output′ written
-  pub distances-after : l′ .distances ≡ runWords Passed (one .search .distances) (l .distances)
-  pub parents-after : l′ .parents ≡ runWords Passed (one .search .parents) (l .parents)
+  pub distances-after : l′ .distances ≡ wordsAfter Passed (one .search .distances) (l .distances)
+  pub parents-after : l′ .parents ≡ wordsAfter Passed (one .search .parents) (l .parents)
   pub roster-after : RosterAfter Passed (mapOf n (take (n + 1) (l .starts)) (take m (l .heads)) (take m (l .costs))) source two (l .roster) (l′ .roster)
-  pub work-after : l′ .work ≡ runWords Passed (replicate (twoLevelWork n) 0) (l .work)
+  pub work-after : l′ .work ≡ wordsAfter Passed (replicate (twoLevelWork n) 0) (l .work)

@@ -6,6 +6,7 @@ use mathlib.Core.List.{List, _++_}
 use lib.ListN.{length, drop}
 use Rattle.model.specs.declared.Check.{Check}
 use Rattle.model.specs.declared.Check.the-variants.{Passed, Fault}
+use Rattle.model.specs.Answers.{wordsAfter}
 use Rattle.reader.specs.declared.PlanAnswer.{PlanAnswer}
 use Rattle.reader.specs.declared.PlanAnswer.the-variants.{Read, Refused}
 use Rattle.reader.specs.Checking.{planCheck}
@@ -57,20 +58,14 @@ abbrev pub planNumbers : Check → Header → PlanNumbers
 planNumbers Passed header = readNumbers (header .nodes) (header .arcs) (header .ceiling) (header .source) (header .segments)
 planNumbers (Fault number place) header = refusedNumbers number place
 
--- A lent list afterwards: its first words are filled and words past these untouched; a refusal changes none (document 01, "Planning
--- file" and "What a call returns").
-abbrev pub planWords : Check → (filled words : List ℕ) → List ℕ
-planWords Passed filled words = filled ++ drop (length filled) words
-planWords (Fault number place) filled words = words
-
 -- The reader on a file whose checks in order come to `check`: its answer, and what each lent list holds afterwards (document 01,
 -- "Planning file" and "What a call returns").
 pub record Promised (check : Check) (bytes starts heads costs starts′ heads′ costs′ : List ℕ) (answer : PlanAnswer) : Type 0 where
   pub read : wasRead answer ≡ allPassed check
   pub numbers : planNumbersOf answer ≡ planNumbers check (planHeader bytes)
-  pub starts-after : starts′ ≡ planWords check (planStarts bytes) starts
-  pub heads-after : heads′ ≡ planWords check (planHeads bytes) heads
-  pub costs-after : costs′ ≡ planWords check (planCosts bytes) costs
+  pub starts-after : starts′ ≡ wordsAfter check (planStarts bytes) starts
+  pub heads-after : heads′ ≡ wordsAfter check (planHeads bytes) heads
+  pub costs-after : costs′ ≡ wordsAfter check (planCosts bytes) costs
 
 -- The reader on every file (document 01, "Planning file" and "What a call returns").
 abbrev pub PlanPromised : (bytes starts heads costs starts′ heads′ costs′ : List ℕ) → PlanAnswer → Type 0

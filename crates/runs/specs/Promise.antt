@@ -6,7 +6,7 @@ use lib.ListN.{length, drop, replicate}
 use Rattle.model.specs.declared.Check.{Check}
 use Rattle.model.specs.declared.Check.the-variants.{Passed, Fault}
 use Rattle.model.specs.declared.RunAnswer.{RunAnswer}
-use Rattle.model.specs.Answers.{Numbers, numbersOf, acceptedNumbers, refusedNumbers}
+use Rattle.model.specs.Answers.{Numbers, numbersOf, acceptedNumbers, refusedNumbers, wordsAfter}
 use Rattle.theory.specs.Maps.{Map, Reached, mapOf}
 use Rattle.theory.specs.Shape.{oneLevelBuckets, twoLevelBuckets}
 use Rattle.theory.specs.Heap.{Heap, placements}
@@ -19,12 +19,6 @@ use Rattle.checks.specs.Checks.{firstFault, oneLevelChecks, twoLevelChecks, one
 abbrev pub runNumbers : Check → (B : ℕ) → (h : Heap) → Numbers
 runNumbers Passed B h = acceptedNumbers (length (h .search .roster)) B (h .search .decreases) (placements h) (h .looks)
 runNumbers (Fault number place) B h = refusedNumbers number place
-
--- A lent list afterwards: the run fills its first words and leaves the others; a refusal leaves all (document 01, "What a call
--- returns").
-abbrev pub runWords : Check → (filled words : List ℕ) → List ℕ
-runWords Passed filled words = filled ++ drop (length filled) words
-runWords (Fault number place) filled words = words
 
 -- The roster of an accepted run: its first r words are each reached node once by nondecreasing distance, and the words from r on
 -- are as they were. The order of equal distances is left open (document 01, "What the planner holds and leaves out").
@@ -55,10 +49,10 @@ pub record Lent : Type 0 where
 -- `needed` work words are 0, and the demands (document 01, "What a call returns" and "The tallies").
 pub record Promised (check : Check) (M : Map) (source B L needed : ℕ) (h : Heap) (r : RunAnswer) (l l′ : Lent) : Type 0 where
   pub numbers : numbersOf r ≡ runNumbers check B h
-  pub distances : l′ .distances ≡ runWords check (h .search .distances) (l .distances)
-  pub parents : l′ .parents ≡ runWords check (h .search .parents) (l .parents)
+  pub distances : l′ .distances ≡ wordsAfter check (h .search .distances) (l .distances)
+  pub parents : l′ .parents ≡ wordsAfter check (h .search .parents) (l .parents)
   pub roster : RosterAfter check M source h (l .roster) (l′ .roster)
-  pub work : l′ .work ≡ runWords check (replicate needed 0) (l .work)
+  pub work : l′ .work ≡ wordsAfter check (replicate needed 0) (l .work)
   pub demanded : RunDemanded check M source B L h
 
 -- The one-level run whose checks come to `check` (document 01, "One-level heap").
