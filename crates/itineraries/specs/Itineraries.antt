@@ -1,0 +1,159 @@
+-- What `routes` prints for every input, and what it leaves in the lists that it lends. The text is ours; its parts are those of document 01,
+-- "Routes" and "Planning file".
+use Prim.Native.Nat.{ℕ, zero, suc, _+_, _≤_, _<_}
+use mathlib.Core.Bool.{cond}
+use mathlib.Core.Path.{_≡_}
+use mathlib.Core.List.{List, [], _∷_, _++_}
+use lib.Dec.{eqb}
+use lib.ListN.{length, getD, take, drop, replicate}
+use Rattle.model.specs.declared.Check.{Check}
+use Rattle.model.specs.declared.Check.the-variants.{Passed, Fault}
+use Rattle.model.specs.Answers.{wordsAfter}
+use Rattle.theory.specs.Maps.{none, Map, mapOf, Route, routeCost}
+use Rattle.theory.specs.Heap.{Heap}
+use Rattle.checks.specs.Checks.{firstFault, oneLevelChecks, oneLevelWork}
+use Rattle.runs.specs.Promise.{RosterFilled, RosterAfter}
+use Rattle.route.specs.Routes.{routeWalk, nodesOf, routeChecks, nodesAlong}
+use Rattle.fields.specs.Fields.{comma, decimal, renderLine}
+use Rattle.fields.specs.Writing.{Writes}
+use Rattle.reader.specs.Plans.{Header, PlanArc, planHeader, planArcs, startsOf, headsOf, costsOf}
+use Rattle.report.specs.Report.{refusedText}
+use Rattle.planning.specs.Planning.{planningCheck, planMap, planOneLevel, PlanLists}
+
+-- ---- the text
+
+-- The line of a reached node: its number, its distance, and the nodes of its route, source first (document 01, "Routes" and "Planning
+-- file").
+unfoldable pub routeLine : (v distance : ℕ) → (nodes : List ℕ) → List ℕ
+routeLine v distance nodes = renderLine comma (v ∷ distance ∷ nodes)
+
+-- The line of a node; one that is not reached has none (document 01, "What the planner holds and leaves out": the mark for none).
+unfoldable pub lineIfReached : (v distance : ℕ) → (nodes : List ℕ) → List ℕ
+lineIfReached v distance nodes = cond (eqb distance none) [] (routeLine v distance nodes)
+
+-- The lines of the first nodes, so many of them, each by number (document 01, "Planning file").
+unfoldable pub routeLines : (count : ℕ) → (distances : List ℕ) → (routes : ℕ → List ℕ) → List ℕ
+routeLines zero distances routes = []
+routeLines (suc v) distances routes = routeLines v distances routes ++ lineIfReached v (getD distances v 0) (routes v)
+
+-- The nodes of the route to node v by a parent table (document 01, "Routes").
+abbrev pub nodesTo : (n source : ℕ) → (starts heads parents : List ℕ) → (v : ℕ) → List ℕ
+nodesTo n source starts heads parents v = nodesOf (routeWalk n source starts heads parents v)
+
+-- The nodes of the route to node v by the parents of the one-level run of a planning file (document 01, "Routes" and "One-level heap").
+abbrev pub planRoute : Header → List PlanArc → (v : ℕ) → List ℕ
+planRoute header arcs =
+    nodesTo (header .nodes) (header .source) (startsOf (header .nodes) arcs) (headsOf (header .nodes) arcs) (planOneLevel header arcs .search .parents)
+
+-- The text for a file whose checks come to `check` (document 01, "Routes" and "Planning file").
+abbrev pub checkedRoutes : Check → Header → List PlanArc → List ℕ
+checkedRoutes Passed header arcs = routeLines (header .nodes) (planOneLevel header arcs .search .distances) (planRoute header arcs)
+checkedRoutes (Fault number place) header arcs = refusedText number place
+
+-- What `routes` prints (document 01, "Routes" and "Planning file").
+unfoldable pub routesText : (bytes : List ℕ) → List ℕ
+routesText bytes = checkedRoutes (planningCheck bytes) (planHeader bytes) (planArcs bytes)
+
+-- ---- the lists
+
+-- The route list with the nodes of a route at its front; for a node that is not reached it stays (document 01, "Routes": words past the
+-- route are untouched).
+unfoldable pub wordsIfReached : (distance : ℕ) → (nodes words : List ℕ) → List ℕ
+wordsIfReached distance nodes words = cond (eqb distance none) words (nodes ++ drop (length nodes) words)
+
+-- The route list behind the routes of the first nodes, each written over those before it (document 01, "Routes").
+unfoldable pub routeWords : (count : ℕ) → (distances : List ℕ) → (routes : ℕ → List ℕ) → (words : List ℕ) → List ℕ
+routeWords zero distances routes words = words
+routeWords (suc v) distances routes words = wordsIfReached (getD distances v 0) (routes v) (routeWords v distances routes words)
+
+-- The route list afterwards; a refusal leaves all words (document 01, "What a call returns").
+abbrev pub checkedWords : Check → Header → List PlanArc → (words : List ℕ) → List ℕ
+checkedWords Passed header arcs words = routeWords (header .nodes) (planOneLevel header arcs .search .distances) (planRoute header arcs) words
+checkedWords (Fault number place) header arcs words = words
+
+-- The text is written, and the lists hold the map, what the one-level run gives back, and the routes; the order of equal distances in the
+-- roster is left open (document 01, "Planning file" and "What the planner holds and leaves out").
+pub record Listed (check : Check) (header : Header) (arcs : List PlanArc) (l l′ : PlanLists) (route route′ output output′ : List ℕ) (bytes : ℕ) : Type 0 where
+  pub text : Writes 0 (checkedRoutes check header arcs) output output′ bytes
+  pub starts-after : l′ .starts ≡ wordsAfter check (startsOf (header .nodes) arcs) (l .starts)
+  pub heads-after : l′ .heads ≡ wordsAfter check (headsOf (header .nodes) arcs) (l .heads)
+  pub costs-after : l′ .costs ≡ wordsAfter check (costsOf (header .nodes) arcs) (l .costs)
+  pub distances-after : l′ .distances ≡ wordsAfter check (planOneLevel header arcs .search .distances) (l .distances)
+  pub parents-after : l′ .parents ≡ wordsAfter check (planOneLevel header arcs .search .parents) (l .parents)
+  pub roster-after : RosterAfter check (planMap header arcs) (header .source) (planOneLevel header arcs) (l .roster) (l′ .roster)
+  pub work-after : l′ .work ≡ wordsAfter check (replicate (oneLevelWork (header .nodes)) 0) (l .work)
+  pub route-after : route′ ≡ checkedWords check header arcs route
+
+-- From bytes to bytes, for every input (document 01, "Planning file" and "What a call returns").
+abbrev pub ItinerariesPromised : (bytes : List ℕ) → (l l′ : PlanLists) → (route route′ output output′ : List ℕ) → (written : ℕ) → Type 0
+ItinerariesPromised bytes l l′ route route′ output output′ written =
+    Listed (planningCheck bytes) (planHeader bytes) (planArcs bytes) l l′ route route′ output output′ written
+
+-- ---- what a line tells
+
+-- The line of a reached node is that of a route of the map, with its cost; no route to the node costs less (document 01, "Routes").
+pub record CheapestLine (M : Map) (source v : ℕ) (line : List ℕ) : Type 0 where
+  pub route : List ℕ
+  pub is-route : Route M source route v
+  pub least : (other : List ℕ) → Route M source other v → routeCost M route ≤ routeCost M other
+  pub told : line ≡ routeLine v (routeCost M route) (nodesAlong M source route)
+
+-- ---- what the code goes by
+
+-- Numbers one behind the other, each behind a comma (document 01, "Planning file": fields parted by commas).
+unfoldable pub behindCommas : (values : List ℕ) → List ℕ
+behindCommas [] = []
+behindCommas (value ∷ values) = (comma ∷ decimal value) ++ behindCommas values
+
+-- The most bytes of a line: 4 for the node, 10 for the distance, 4 for each of 512 nodes, and the line feed come to 2,063 (document 01,
+-- "Planning file": 512 words for any list by node).
+abbrev pub lineBytes : ℕ
+lineBytes = 2064
+
+-- The nodes of a line: at most 512, each of at most three digits (document 01, "Planning file").
+pub record Few (nodes : List ℕ) : Type 0 where
+  pub count : length nodes ≤ 512
+  pub small : (i : ℕ) → i < length nodes → getD nodes i 0 < 1000
+
+-- The route to node v is not refused, and a line has room for its nodes (document 01, "Routes").
+pub record Routable (n source : ℕ) (starts heads parents : List ℕ) (v : ℕ) : Type 0 where
+  pub node : v < 1000
+  pub some : 1 ≤ length (nodesTo n source starts heads parents v)
+  pub accepted : firstFault (routeChecks n source starts heads parents v 512) ≡ Passed
+  pub few : Few (nodesTo n source starts heads parents v)
+
+-- Every node with a distance has such a route (document 01, "Routes").
+pub record AllRoutable (n source : ℕ) (starts heads distances parents : List ℕ) : Type 0 where
+  pub nodes-fit : n ≤ 512
+  pub distances-fit : n ≤ length distances
+  pub routable : (v : ℕ) → v < n → (getD distances v 0 ≡ none → ⊥) → Routable n source starts heads parents v
+
+-- The words that `routes` lends of each list, and the bytes of its output: 512 lines, and 32 more, since a number is written where 20 bytes
+-- are free (document 01, "Planning file").
+pub record Lends (l : PlanLists) (route output : List ℕ) : Type 0 where
+  pub starts-words : length (l .starts) ≡ 513
+  pub heads-words : length (l .heads) ≡ 2048
+  pub costs-words : length (l .costs) ≡ 2048
+  pub distances-words : length (l .distances) ≡ 512
+  pub parents-words : length (l .parents) ≡ 512
+  pub roster-words : length (l .roster) ≡ 512
+  pub work-words : length (l .work) ≡ 2432
+  pub route-words : length route ≡ 512
+  pub output-bytes : length output ≡ 1056800
+
+-- A map that has been read into the lists, which the one-level run accepts (document 01, "Planning file").
+pub record Runnable (n m C source : ℕ) (l : PlanLists) : Type 0 where
+  pub starts-fit : n + 1 ≤ length (l .starts)
+  pub heads-fit : m ≤ length (l .heads)
+  pub costs-fit : m ≤ length (l .costs)
+  pub nodes-fit : n ≤ 512
+  pub accepted : firstFault (oneLevelChecks n C source (take (n + 1) (l .starts)) (take m (l .heads)) (take m (l .costs)) (length (l .distances)) (length (l .parents)) (length (l .roster)) (length (l .work))) ≡ Passed
+
+-- The one-level run of the map in the lists is made, and its routes are written (document 01, "Routes" and "One-level heap").
+pub record RunListed (n source : ℕ) (starts heads costs : List ℕ) (l l′ : PlanLists) (route route′ output output′ : List ℕ) (written : ℕ) (h : Heap) : Type 0 where
+  pub text : Writes 0 (routeLines n (h .search .distances) (nodesTo n source starts heads (h .search .parents))) output output′ written
+  pub distances-after : l′ .distances ≡ wordsAfter Passed (h .search .distances) (l .distances)
+  pub parents-after : l′ .parents ≡ wordsAfter Passed (h .search .parents) (l .parents)
+  pub roster-after : RosterFilled (mapOf n starts heads costs) source h (l .roster) (l′ .roster)
+  pub work-after : l′ .work ≡ wordsAfter Passed (replicate (oneLevelWork n) 0) (l .work)
+  pub route-after : route′ ≡ routeWords n (h .search .distances) (nodesTo n source starts heads (h .search .parents)) route
