@@ -1,56 +1,30 @@
 // Planning files at their edges, answered by what the program `plan` calls (document 01, "Planning file" and "What a call returns"). Each
 // case gives a line with its number, the bytes of its file and their two sums; then the text that is written for it; then a line with the
 // two sums of starts, heads, costs, distances, parents, roster, work and output, with all that is not filled.
-ghost use mathlib.Core.Path.{_≡_};
-ghost use Prim.Native.Nat.{_≤_};
-ghost use lib.ListN.{length};
 
 // A file is made in 65,537 bytes: one more than are taken.
-fn put(file: &mut [u8], at: usize, byte: u8) -> usize
-    requires { ⌜ length (now file) ≡ 65537 ⌝ }
-    ensures { λ r. ⌜ r ≤ 65537 ⌝ }
-{
-    if at >= 65537 {
-        return 65537;
+type File = [u8; 65537];
+
+fn put(file: &mut File, at: usize, byte: u8) -> usize {
+    if at < 65537 {
+        file[at] = byte;
+        return at + 1;
     }
-    file[at] = byte;
-    at + 1
+    at
 }
 
-fn put_bytes(file: &mut [u8], at: usize, bytes: &[u8]) -> usize
-    requires { ⌜ length (now file) ≡ 65537 ⌝ }
-    requires { ⌜ at ≤ 65537 ⌝ }
-    ensures { λ r. ⌜ r ≤ 65537 ⌝ }
-{
+// One byte over and over, until the file has so many.
+fn fill_up(file: &mut File, at: usize, byte: u8, end: usize) -> usize {
     let mut next = at;
-    let mut i = 0;
-    while i < bytes.len() {
-        next = put(file, next, bytes[i]);
-        i += 1;
+    while next < end {
+        put(file, next, byte);
+        next += 1;
     }
     next
 }
 
-// One byte over and over, until the file has so many.
-fn fill_up(file: &mut [u8], at: usize, byte: u8, end: usize) -> usize
-    requires { ⌜ length (now file) ≡ 65537 ⌝ }
-    requires { ⌜ end ≤ 65537 ⌝ }
-    ensures { λ r. ⌜ r ≤ 65537 ⌝ }
-{
-    let mut next = at;
-    while next < end {
-        file[next] = byte;
-        next += 1;
-    }
-    end
-}
-
 // One digit of a number, unless it stands before the first.
-fn put_digit(file: &mut [u8], at: usize, value: u32, unit: u32) -> usize
-    requires { ⌜ length (now file) ≡ 65537 ⌝ }
-    requires { ⌜ at ≤ 65537 ⌝ }
-    ensures { λ r. ⌜ r ≤ 65537 ⌝ }
-{
+fn put_digit(file: &mut File, at: usize, value: u32, unit: u32) -> usize {
     if unit == 0 {
         return at;
     }
@@ -61,11 +35,7 @@ fn put_digit(file: &mut [u8], at: usize, value: u32, unit: u32) -> usize
 }
 
 // A field of at most 7 digits.
-fn put_number(file: &mut [u8], at: usize, value: u32) -> usize
-    requires { ⌜ length (now file) ≡ 65537 ⌝ }
-    requires { ⌜ at ≤ 65537 ⌝ }
-    ensures { λ r. ⌜ r ≤ 65537 ⌝ }
-{
+fn put_number(file: &mut File, at: usize, value: u32) -> usize {
     let mut next = at;
     let mut unit: u32 = 1000000;
     while unit > 0 {
@@ -75,11 +45,7 @@ fn put_number(file: &mut [u8], at: usize, value: u32) -> usize
     next
 }
 
-fn put_arc(file: &mut [u8], at: usize, tail: u32, head: u32, cost: u32) -> usize
-    requires { ⌜ length (now file) ≡ 65537 ⌝ }
-    requires { ⌜ at ≤ 65537 ⌝ }
-    ensures { λ r. ⌜ r ≤ 65537 ⌝ }
-{
+fn put_arc(file: &mut File, at: usize, tail: u32, head: u32, cost: u32) -> usize {
     let next = put_number(file, at, tail);
     let second = put(file, next, b',');
     let next = put_number(file, second, head);
@@ -88,196 +54,185 @@ fn put_arc(file: &mut [u8], at: usize, tail: u32, head: u32, cost: u32) -> usize
     put(file, next, b'\n')
 }
 
-fn whole(file: &mut [u8], bytes: &[u8]) -> usize
-    requires { ⌜ length (now file) ≡ 65537 ⌝ }
-    ensures { λ r. ⌜ r ≤ 65537 ⌝ }
-{
-    put_bytes(file, 0, bytes)
+fn put_if(file: &mut File, at: usize, byte: u8, wanted: bool) -> usize {
+    if wanted {
+        return put(file, at, byte);
+    }
+    at
 }
 
-fn accepted_file(file: &mut [u8], number: u32) -> usize
-    requires { ⌜ length (now file) ≡ 65537 ⌝ }
-    ensures { λ r. ⌜ r ≤ 65537 ⌝ }
-{
+// One of several files that stand one behind the other, each ended by a bar, which none of them has. The first has a number of its own.
+fn pick(file: &mut File, number: u32, first: u32, files: &[u8]) -> usize {
+    let mut next = 0;
+    let mut ended = first;
+    let mut i = 0;
+    while i < files.len() {
+        let byte = files[i];
+        if byte == b'|' {
+            ended = std::num::wrapping_add_u32(ended, 1);
+        } else {
+            next = put_if(file, next, byte, ended == number);
+        }
+        i += 1;
+    }
+    next
+}
+
+fn accepted_file(file: &mut File, number: u32) -> usize {
     match number {
         // The listing, one node without arcs, and two arcs of cost 0 (document 01, "Edges").
-        0 => whole(
+        0..=2 => pick(
             file,
-            b"5,7,9,0,3\n0,1,9\n0,2,4\n0,3,6\n2,1,4\n2,3,2\n3,1,0\n4,0,1\n",
+            number,
+            0,
+            b"5,7,9,0,3\n0,1,9\n0,2,4\n0,3,6\n2,1,4\n2,3,2\n3,1,0\n4,0,1\n|1,0,0,0,2\n|2,2,0,0,2\n0,1,0\n1,0,0\n|",
         ),
-        1 => whole(file, b"1,0,0,0,2\n"),
-        2 => whole(file, b"2,2,0,0,2\n0,1,0\n1,0,0\n"),
-        // C, K and a cost at their most.
-        3 => whole(file, b"1,1,1048575,0,64\n0,0,1048575\n"),
-        // A source from which no arc leaves.
-        4 => whole(file, b"3,2,9,2,2\n0,1,4\n1,2,9\n"),
-        // A self-loop and parallel arcs.
-        5 => whole(file, b"3,5,9,0,2\n0,0,0\n0,1,5\n0,1,4\n0,1,4\n2,1,0\n"),
-        // Nodes 1, 2 and 3 at one distance.
-        _ => whole(file, b"4,4,3,0,2\n0,3,2\n0,2,2\n2,1,0\n3,1,0\n"),
+        // C, K and a cost at their most; a source from which no arc leaves; a self-loop and parallel arcs; nodes 1, 2 and 3 at one distance.
+        _ => pick(
+            file,
+            number,
+            3,
+            b"1,1,1048575,0,64\n0,0,1048575\n|3,2,9,2,2\n0,1,4\n1,2,9\n|3,5,9,0,2\n0,0,0\n0,1,5\n0,1,4\n0,1,4\n2,1,0\n|4,4,3,0,2\n0,3,2\n0,2,2\n2,1,0\n3,1,0\n|",
+        ),
     }
 }
 
 // Line 1 ill-formed (number 11).
-fn header_file(file: &mut [u8], number: u32) -> usize
-    requires { ⌜ length (now file) ≡ 65537 ⌝ }
-    ensures { λ r. ⌜ r ≤ 65537 ⌝ }
-{
+fn header_file(file: &mut File, number: u32) -> usize {
     match number {
-        // No byte, no line feed, and an empty line.
-        7 => whole(file, b""),
-        8 => whole(file, b"1,0,0,0,2"),
-        9 => whole(file, b"\n1,0,0,0,2\n"),
-        // A carriage return, and spaces.
-        10 => whole(file, b"1,0,0,0,2\r\n"),
-        11 => whole(file, b" 1,0,0,0,2\n"),
-        12 => whole(file, b"1,0,0,0,2 \n"),
-        // Leading zeros and eight digits.
-        13 => whole(file, b"01,0,0,0,2\n"),
-        14 => whole(file, b"1,00,0,0,2\n"),
-        15 => whole(file, b"10000000,0,0,0,2\n"),
-        16 => whole(file, b"1,0,0,0,20000000\n"),
-        // Fields empty, missing and too many.
-        17 => whole(file, b"1,,0,0,2\n"),
-        18 => whole(file, b"1,0,0,0,\n"),
-        19 => whole(file, b"1,0,0,0\n"),
-        20 => whole(file, b"1,0,0,0,2,0\n"),
+        // No byte, no line feed, and an empty line; a carriage return, and spaces.
+        7..=12 => pick(
+            file,
+            number,
+            7,
+            b"|1,0,0,0,2|\n1,0,0,0,2\n|1,0,0,0,2\r\n| 1,0,0,0,2\n|1,0,0,0,2 \n|",
+        ),
+        // Leading zeros and eight digits; fields empty, missing and too many.
+        13..=20 => pick(
+            file,
+            number,
+            13,
+            b"01,0,0,0,2\n|1,00,0,0,2\n|10000000,0,0,0,2\n|1,0,0,0,20000000\n|1,,0,0,2\n|1,0,0,0,\n|1,0,0,0\n|1,0,0,0,2,0\n|",
+        ),
         _ => byte_file(file, number),
     }
 }
 
 // Bytes that are no digits, the two beside the digits among them (number 11).
-fn byte_file(file: &mut [u8], number: u32) -> usize
-    requires { ⌜ length (now file) ≡ 65537 ⌝ }
-    ensures { λ r. ⌜ r ≤ 65537 ⌝ }
-{
-    match number {
-        21 => whole(file, b"1;0;0;0;2\n"),
-        22 => whole(file, b"-1,0,0,0,2\n"),
-        23 => whole(file, b"1,0,0,0,+2\n"),
-        24 => whole(file, b"/,0,0,0,2\n"),
-        25 => whole(file, b"1,0,0,0,:\n"),
-        26 => whole(file, b"\x001,0,0,0,2\n"),
-        27 => whole(file, b"1,0,0,0,2\xff\n"),
-        _ => whole(file, b"\"1\",0,0,0,2\n"),
-    }
+fn byte_file(file: &mut File, number: u32) -> usize {
+    pick(
+        file,
+        number,
+        21,
+        b"1;0;0;0;2\n|-1,0,0,0,2\n|1,0,0,0,+2\n|/,0,0,0,2\n|1,0,0,0,:\n|\x001,0,0,0,2\n|1,0,0,0,2\xff\n|\"1\",0,0,0,2\n|",
+    )
 }
 
 // Lines missing, left over or ill-formed behind line 1 (number 11).
-fn line_file(file: &mut [u8], number: u32) -> usize
-    requires { ⌜ length (now file) ≡ 65537 ⌝ }
-    ensures { λ r. ⌜ r ≤ 65537 ⌝ }
-{
+fn line_file(file: &mut File, number: u32) -> usize {
     match number {
         // The listing without its last line feed.
-        29 => whole(
+        29 => pick(
             file,
-            b"5,7,9,0,3\n0,1,9\n0,2,4\n0,3,6\n2,1,4\n2,3,2\n3,1,0\n4,0,1",
+            number,
+            29,
+            b"5,7,9,0,3\n0,1,9\n0,2,4\n0,3,6\n2,1,4\n2,3,2\n3,1,0\n4,0,1|",
         ),
         // The last line missing, the only one, and half of one.
-        30 => whole(file, b"2,2,1,0,2\n0,1,1\n"),
-        31 => whole(file, b"2,1,1,0,2\n"),
-        32 => whole(file, b"2,2,1,0,2\n0,1,1\n1,0"),
+        30..=32 => pick(
+            file,
+            number,
+            30,
+            b"2,2,1,0,2\n0,1,1\n|2,1,1,0,2\n|2,2,1,0,2\n0,1,1\n1,0|",
+        ),
         // A line left over, half of one, and a line feed.
-        33 => whole(file, b"1,0,0,0,2\n0,0,0\n"),
-        34 => whole(file, b"2,1,1,0,2\n0,1,1\n0,1"),
-        35 => whole(file, b"1,0,0,0,2\n\n"),
+        33..=35 => pick(
+            file,
+            number,
+            33,
+            b"1,0,0,0,2\n0,0,0\n|2,1,1,0,2\n0,1,1\n0,1|1,0,0,0,2\n\n|",
+        ),
         // What line 1 is turned down for, in the line of an arc.
-        36 => whole(file, b"2,1,1,0,2\n0,1,1\r\n"),
-        37 => whole(file, b"2,1,1,0,2\n0, 1,1\n"),
-        38 => whole(file, b"2,1,1,0,2\n0,01,1\n"),
-        39 => whole(file, b"2,1,1,0,2\n0,1,00\n"),
-        40 => whole(file, b"2,1,1,0,2\n0,1,10000000\n"),
-        41 => whole(file, b"2,1,1,0,2\n,1,1\n"),
-        42 => whole(file, b"2,1,1,0,2\n0,1\n"),
-        43 => whole(file, b"2,1,1,0,2\n0,1,1,0\n"),
-        _ => whole(file, b"2,2,1,0,2\n0,1,1\n\n1,0,1\n"),
+        _ => pick(
+            file,
+            number,
+            36,
+            b"2,1,1,0,2\n0,1,1\r\n|2,1,1,0,2\n0, 1,1\n|2,1,1,0,2\n0,01,1\n|2,1,1,0,2\n0,1,00\n|2,1,1,0,2\n0,1,10000000\n|2,1,1,0,2\n,1,1\n|2,1,1,0,2\n0,1\n|2,1,1,0,2\n0,1,1,0\n|2,2,1,0,2\n0,1,1\n\n1,0,1\n|",
+        ),
     }
 }
 
 // What the numbers of line 1 refuse (numbers 1, 4, 2, 3, 9 and 10).
-fn number_file(file: &mut [u8], number: u32) -> usize
-    requires { ⌜ length (now file) ≡ 65537 ⌝ }
-    ensures { λ r. ⌜ r ≤ 65537 ⌝ }
-{
+fn number_file(file: &mut File, number: u32) -> usize {
     match number {
         // n: none, one too many, seven digits; then more than the starts have room for.
-        45 => whole(file, b"0,0,0,0,2\n"),
-        46 => whole(file, b"4097,0,0,0,2\n"),
-        47 => whole(file, b"9999999,0,0,0,2\n"),
-        48 => whole(file, b"4096,0,0,0,2\n"),
-        49 => whole(file, b"513,0,0,0,2\n"),
+        45..=49 => pick(
+            file,
+            number,
+            45,
+            b"0,0,0,0,2\n|4097,0,0,0,2\n|9999999,0,0,0,2\n|4096,0,0,0,2\n|513,0,0,0,2\n|",
+        ),
         // m: one too many; then more than the heads have room for.
-        50 => whole(file, b"1,65537,0,0,2\n"),
-        51 => whole(file, b"1,65536,0,0,2\n"),
-        52 => whole(file, b"1,2049,0,0,2\n"),
+        50..=52 => pick(
+            file,
+            number,
+            50,
+            b"1,65537,0,0,2\n|1,65536,0,0,2\n|1,2049,0,0,2\n|",
+        ),
         // C, the source and K.
-        53 => whole(file, b"1,0,1048576,0,2\n"),
-        54 => whole(file, b"1,0,9999999,0,2\n"),
-        55 => whole(file, b"1,0,0,1,2\n"),
-        56 => whole(file, b"5,0,0,5,2\n"),
-        57 => whole(file, b"1,0,0,0,0\n"),
-        58 => whole(file, b"1,0,0,0,1\n"),
-        59 => whole(file, b"1,0,0,0,65\n"),
-        _ => whole(file, b"1,0,0,0,64\n"),
+        _ => pick(
+            file,
+            number,
+            53,
+            b"1,0,1048576,0,2\n|1,0,9999999,0,2\n|1,0,0,1,2\n|5,0,0,5,2\n|1,0,0,0,0\n|1,0,0,0,1\n|1,0,0,0,65\n|1,0,0,0,64\n|",
+        ),
     }
 }
 
 // Two faults of line 1, or one of it and one behind it: the order of the checks.
-fn order_file(file: &mut [u8], number: u32) -> usize
-    requires { ⌜ length (now file) ≡ 65537 ⌝ }
-    ensures { λ r. ⌜ r ≤ 65537 ⌝ }
-{
+fn order_file(file: &mut File, number: u32) -> usize {
     match number {
         // 11 before 1, 1 before 4, 4 before 2, 2 before 3, 3 before 9, 9 before 10.
-        61 => whole(file, b"0,0,0,0,02\n"),
-        62 => whole(file, b"4097,65537,0,0,2\n"),
-        63 => whole(file, b"1,65537,1048576,0,2\n"),
-        64 => whole(file, b"1,0,1048576,1,2\n"),
-        65 => whole(file, b"1,0,0,1,1\n"),
-        66 => whole(file, b"513,2049,0,0,1\n"),
+        61..=66 => pick(
+            file,
+            number,
+            61,
+            b"0,0,0,0,02\n|4097,65537,0,0,2\n|1,65537,1048576,0,2\n|1,0,1048576,1,2\n|1,0,0,1,1\n|513,2049,0,0,1\n|",
+        ),
         // Starts before heads, and 10 before the lines of the arcs.
-        67 => whole(file, b"513,2049,0,0,2\n"),
-        68 => whole(file, b"513,1,0,0,2\n2,2"),
-        _ => whole(file, b"1,2049,0,0,2\n0\n"),
+        _ => pick(
+            file,
+            number,
+            67,
+            b"513,2049,0,0,2\n|513,1,0,0,2\n2,2|1,2049,0,0,2\n0\n|",
+        ),
     }
 }
 
 // What the numbers of an arc refuse (numbers 12, 7 and 8), and in which order.
-fn arc_file(file: &mut [u8], number: u32) -> usize
-    requires { ⌜ length (now file) ≡ 65537 ⌝ }
-    ensures { λ r. ⌜ r ≤ 65537 ⌝ }
-{
+fn arc_file(file: &mut File, number: u32) -> usize {
     match number {
-        // A tail that falls, and tail n.
-        70 => whole(file, b"2,2,1,0,2\n1,0,1\n0,1,1\n"),
-        71 => whole(file, b"3,3,1,0,2\n0,0,0\n2,0,0\n1,0,0\n"),
-        72 => whole(file, b"2,1,1,0,2\n2,0,1\n"),
-        // Head n; cost C, which passes, and C + 1; both in the second arc.
-        73 => whole(file, b"2,1,1,0,2\n0,2,1\n"),
-        74 => whole(file, b"2,1,1,0,2\n0,1,1\n"),
-        75 => whole(file, b"2,1,1,0,2\n0,1,2\n"),
-        76 => whole(file, b"2,2,1,0,2\n0,1,1\n1,2,1\n"),
-        77 => whole(file, b"2,2,1,0,2\n0,1,1\n1,0,2\n"),
-        // 11 before 12, 12 before 7, 12 before 8, 7 before 8.
-        78 => whole(file, b"2,1,1,0,2\n2,2,02\n"),
-        79 => whole(file, b"2,1,1,0,2\n2,2,1\n"),
-        80 => whole(file, b"2,2,1,0,2\n1,0,0\n0,1,2\n"),
-        81 => whole(file, b"2,1,1,0,2\n0,2,2\n"),
-        // A line's last check before the next line's first, and before lines missing and left over.
-        82 => whole(file, b"2,2,1,0,2\n1,0,2\n0,0,0\n"),
-        83 => whole(file, b"2,2,1,0,2\n0,1,2\nx\n"),
-        84 => whole(file, b"2,3,1,0,2\n0,1,2\n"),
-        _ => whole(file, b"2,1,1,0,2\n0,1,2\n0,1,1\n"),
+        // A tail that falls, and tail n; head n; cost C, which passes, and C + 1; both in the second arc.
+        70..=77 => pick(
+            file,
+            number,
+            70,
+            b"2,2,1,0,2\n1,0,1\n0,1,1\n|3,3,1,0,2\n0,0,0\n2,0,0\n1,0,0\n|2,1,1,0,2\n2,0,1\n|2,1,1,0,2\n0,2,1\n|2,1,1,0,2\n0,1,1\n|2,1,1,0,2\n0,1,2\n|2,2,1,0,2\n0,1,1\n1,2,1\n|2,2,1,0,2\n0,1,1\n1,0,2\n|",
+        ),
+        // 11 before 12, 12 before 7, 12 before 8, 7 before 8; a line's last check before the next line's first, and before lines missing and
+        // left over.
+        _ => pick(
+            file,
+            number,
+            78,
+            b"2,1,1,0,2\n2,2,02\n|2,1,1,0,2\n2,2,1\n|2,2,1,0,2\n1,0,0\n0,1,2\n|2,1,1,0,2\n0,2,2\n|2,2,1,0,2\n1,0,2\n0,0,0\n|2,2,1,0,2\n0,1,2\nx\n|2,3,1,0,2\n0,1,2\n|2,1,1,0,2\n0,1,2\n0,1,1\n|",
+        ),
     }
 }
 
 // The most arcs on one node.
-fn loops_file(file: &mut [u8]) -> usize
-    requires { ⌜ length (now file) ≡ 65537 ⌝ }
-    ensures { λ r. ⌜ r ≤ 65537 ⌝ }
-{
-    let mut next = whole(file, b"1,2048,0,0,2\n");
+fn loops_file(file: &mut File) -> usize {
+    let mut next = pick(file, 86, 86, b"1,2048,0,0,2\n|");
     let mut i: u32 = 0;
     while i < 2048 {
         next = put_arc(file, next, 0, 0, 0);
@@ -287,11 +242,8 @@ fn loops_file(file: &mut [u8]) -> usize
 }
 
 // A chain of the most nodes, each arc of the largest cost: keys stand in the last bucket of both heaps.
-fn chain_file(file: &mut [u8]) -> usize
-    requires { ⌜ length (now file) ≡ 65537 ⌝ }
-    ensures { λ r. ⌜ r ≤ 65537 ⌝ }
-{
-    let mut next = whole(file, b"512,511,1048575,0,64\n");
+fn chain_file(file: &mut File) -> usize {
+    let mut next = pick(file, 87, 87, b"512,511,1048575,0,64\n|");
     let mut v = 0;
     while v < 511 {
         next = put_arc(file, next, v, v + 1, 1048575);
@@ -301,35 +253,34 @@ fn chain_file(file: &mut [u8]) -> usize
 }
 
 // The most nodes and arcs, four from each node; as many lines as asked for.
-fn full_file(file: &mut [u8], lines: u32) -> usize
-    requires { ⌜ length (now file) ≡ 65537 ⌝ }
-    requires { ⌜ lines ≤ 2049 ⌝ }
-    ensures { λ r. ⌜ r ≤ 65537 ⌝ }
-{
-    let mut next = whole(file, b"512,2048,1048575,0,16\n");
+fn full_file(file: &mut File, lines: u32) -> usize {
+    let mut next = pick(file, 88, 88, b"512,2048,1048575,0,16\n|");
     let mut i = 0;
     while i < lines {
-        next = put_arc(file, next, i / 4, i * 37 % 512, i * 524309 % 1048576);
+        let word = i % 4096;
+        next = put_arc(
+            file,
+            next,
+            word / 4,
+            word * 37 % 512,
+            word * 524309 % 1048576,
+        );
         i += 1;
     }
     next
 }
 
 // Files of as many bytes as are taken, and of one more (number 13): what follows their first bytes is left over.
-fn end_file(file: &mut [u8], number: u32, bytes: usize) -> usize
-    requires { ⌜ length (now file) ≡ 65537 ⌝ }
-    requires { ⌜ bytes ≤ 65537 ⌝ }
-    ensures { λ r. ⌜ r ≤ 65537 ⌝ }
-{
+fn end_file(file: &mut File, number: u32, bytes: usize) -> usize {
     match number {
         91 | 92 => {
-            let at = whole(file, b"1,0,0,0,2\n");
+            let at = pick(file, 91, 91, b"1,0,0,0,2\n|");
             fill_up(file, at, b'0', bytes)
         }
         // 13 before 11 of line 1, before 1, and before 11 of a line behind the arcs.
         93 | 94 => fill_up(file, 0, b'x', bytes),
         95 | 96 => {
-            let at = whole(file, b"0,0,0,0,2\n");
+            let at = pick(file, 95, 95, b"0,0,0,0,2\n|");
             fill_up(file, at, b'0', bytes)
         }
         _ => {
@@ -339,10 +290,7 @@ fn end_file(file: &mut [u8], number: u32, bytes: usize) -> usize
     }
 }
 
-fn long_file(file: &mut [u8], number: u32) -> usize
-    requires { ⌜ length (now file) ≡ 65537 ⌝ }
-    ensures { λ r. ⌜ r ≤ 65537 ⌝ }
-{
+fn long_file(file: &mut File, number: u32) -> usize {
     match number {
         86 => loops_file(file),
         87 => chain_file(file),
@@ -355,29 +303,16 @@ fn long_file(file: &mut [u8], number: u32) -> usize
     }
 }
 
-fn case_file(file: &mut [u8], number: u32) -> usize
-    requires { ⌜ length (now file) ≡ 65537 ⌝ }
-    ensures { λ r. ⌜ r ≤ 65537 ⌝ }
-{
-    if number < 7 {
-        return accepted_file(file, number);
+fn case_file(file: &mut File, number: u32) -> usize {
+    match number {
+        0..=6 => accepted_file(file, number),
+        7..=28 => header_file(file, number),
+        29..=44 => line_file(file, number),
+        45..=60 => number_file(file, number),
+        61..=69 => order_file(file, number),
+        70..=85 => arc_file(file, number),
+        _ => long_file(file, number),
     }
-    if number < 29 {
-        return header_file(file, number);
-    }
-    if number < 45 {
-        return line_file(file, number);
-    }
-    if number < 61 {
-        return number_file(file, number);
-    }
-    if number < 70 {
-        return order_file(file, number);
-    }
-    if number < 86 {
-        return arc_file(file, number);
-    }
-    long_file(file, number)
 }
 
 // The words first, first + step, first + 2 × step and so on.
@@ -542,10 +477,22 @@ fn run_case(number: u32, bytes: &[u8]) {
     print_output(&output);
 }
 
+// The first bytes of a file.
+fn front(file: &[u8], length: usize) -> &[u8] {
+    if length > file.len() {
+        return file;
+    }
+    &file[..length]
+}
+
+fn run_file(number: u32, file: &File, length: usize) {
+    run_case(number, front(file, length));
+}
+
 fn make_and_run(number: u32) {
     let mut file = [0u8; 65537];
     let length = case_file(&mut file, number);
-    run_case(number, &file[..length]);
+    run_file(number, &file, length);
 }
 
 fn main() {

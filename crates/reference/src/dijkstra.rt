@@ -1,16 +1,21 @@
 // Dijkstra's search over arrays (document 01, "The search").
+use crate::map;
+use crate::map::Lists;
 use crate::nodes;
+use crate::nodes::Table;
 use crate::words;
 
+fn nearer(table: &Table, v: u64, w: u64) -> bool {
+    nodes::get(table, nodes::DISTANCE, v) < nodes::get(table, nodes::DISTANCE, w)
+}
+
 // The labelled node of smallest distance, and of smallest number among equals; n if none is labelled.
-fn nearest(n: u64, table: &[u64]) -> u64 {
+fn nearest(n: u64, table: &Table) -> u64 {
     let mut best = n;
     let mut v = 0;
     while v < n {
         if nodes::get(table, nodes::MARK, v) == nodes::LABELLED {
-            if best == n
-                || nodes::get(table, nodes::DISTANCE, v) < nodes::get(table, nodes::DISTANCE, best)
-            {
+            if best == n || nearer(table, v, best) {
                 best = v;
             }
         }
@@ -19,47 +24,45 @@ fn nearest(n: u64, table: &[u64]) -> u64 {
     best
 }
 
+fn label(table: &mut Table, v: u64, distance: u64, parent: u64) {
+    nodes::set(table, nodes::DISTANCE, v, distance);
+    nodes::set(table, nodes::PARENT, v, parent);
+    nodes::set(table, nodes::MARK, v, nodes::LABELLED);
+}
+
 // The head of an arc gets a distance that is strictly below its own, and this parent.
-fn relax(tail: u64, arc: u64, heads: &[u32], costs: &[u32], table: &mut [u64]) {
-    let head = words::word(heads, arc);
+fn relax(lists: &Lists, table: &mut Table, tail: u64, arc: u64) {
+    let head = map::head(lists, arc);
     let distance = words::sum(
         nodes::get(table, nodes::DISTANCE, tail),
-        words::word(costs, arc),
+        map::cost(lists, arc),
     );
     let unlabelled = nodes::get(table, nodes::MARK, head) == nodes::UNLABELLED;
     if unlabelled || distance < nodes::get(table, nodes::DISTANCE, head) {
-        nodes::set(table, nodes::DISTANCE, head, distance);
-        nodes::set(table, nodes::PARENT, head, arc);
-        nodes::set(table, nodes::MARK, head, nodes::LABELLED);
+        label(table, head, distance, arc);
     }
 }
 
 // The arcs of a node in number order.
-fn scan(v: u64, starts: &[u32], heads: &[u32], costs: &[u32], table: &mut [u64]) {
-    let end = words::word(starts, words::sum(v, 1));
-    let mut arc = words::word(starts, v);
+fn scan(lists: &Lists, table: &mut Table, v: u64) {
+    let end = map::start(lists, words::sum(v, 1));
+    let mut arc = map::start(lists, v);
     while arc < end {
-        relax(v, arc, heads, costs, table);
+        relax(lists, table, v, arc);
         arc += 1;
     }
 }
 
 // The source alone is labelled, at distance 0.
-fn start(n: u64, source: u64, table: &mut [u64]) {
-    nodes::clear(n, table);
-    nodes::set(table, nodes::DISTANCE, source, 0);
-    nodes::set(table, nodes::MARK, source, nodes::LABELLED);
+fn start(n: u64, source: u64, table: &mut Table) {
+    nodes::fill(table, nodes::DISTANCE, n, nodes::NONE);
+    nodes::fill(table, nodes::PARENT, n, nodes::NONE);
+    nodes::fill(table, nodes::MARK, n, nodes::UNLABELLED);
+    label(table, source, 0, nodes::NONE);
 }
 
 // Distances, parents and the order scanned; how many nodes are reached.
-pub fn search(
-    n: u64,
-    source: u64,
-    starts: &[u32],
-    heads: &[u32],
-    costs: &[u32],
-    table: &mut [u64],
-) -> u64 {
+pub fn search(n: u64, source: u64, lists: &Lists, table: &mut Table) -> u64 {
     start(n, source, table);
     let mut scanned = 0;
     while scanned < n {
@@ -69,7 +72,7 @@ pub fn search(
         }
         nodes::set(table, nodes::MARK, v, nodes::SCANNED);
         nodes::set(table, nodes::ORDER, scanned, v);
-        scan(v, starts, heads, costs, table);
+        scan(lists, table, v);
         scanned += 1;
     }
     scanned

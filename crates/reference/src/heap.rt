@@ -1,5 +1,7 @@
 // The numbers of the two heaps by document 01's formulas ("One-level heap", "Two-level heap"): powers by multiplication, the logarithm by
 // a loop.
+use crate::nodes;
+use crate::nodes::Table;
 use crate::words;
 
 // K is `segments`, B is `buckets`, nC + 1 is `top`. The one-level heap has one segment to a bucket.
@@ -81,37 +83,29 @@ fn first_bound(heap: Heap, i: u64) -> u64 {
     words::least(words::minus(power(2, words::minus(i, 1)), 1), heap.top)
 }
 
-// u(i), from a list in which place 0 is not used.
-pub fn bound(bounds: &[u64; 32], i: u64) -> u64 {
-    let at = i as usize;
-    if at < 32 {
-        return bounds[at];
-    }
-    0
+pub fn bound(table: &Table, i: u64) -> u64 {
+    nodes::get(table, nodes::BOUND, i)
 }
 
-pub fn set_bound(bounds: &mut [u64; 32], i: u64, number: u64) {
-    let at = i as usize;
-    if at < 32 {
-        bounds[at] = number;
-    }
+fn set_bound(table: &mut Table, i: u64, number: u64) {
+    nodes::set(table, nodes::BOUND, i, number);
 }
 
-pub fn first_bounds(heap: Heap, bounds: &mut [u64; 32]) {
+pub fn first_bounds(heap: Heap, table: &mut Table) {
     let last = heap.buckets;
     let mut i = 1;
     while i < last {
-        set_bound(bounds, i, first_bound(heap, i));
+        set_bound(table, i, first_bound(heap, i));
         i += 1;
     }
-    set_bound(bounds, last, heap.top);
+    set_bound(table, last, heap.top);
 }
 
 // i + 1 for the largest i from `start` down with u(i) below the key, or 1 if there is none.
-pub fn bucket_of(bounds: &[u64; 32], start: u64, key: u64) -> u64 {
+pub fn bucket_of(table: &Table, start: u64, key: u64) -> u64 {
     let mut i = start;
     while i > 0 {
-        if bound(bounds, i) < key {
+        if bound(table, i) < key {
             return words::sum(i, 1);
         }
         i -= 1;
@@ -120,23 +114,23 @@ pub fn bucket_of(bounds: &[u64; 32], start: u64, key: u64) -> u64 {
 }
 
 // The segment of a key in bucket i, counted from the top of its range.
-pub fn segment_of(heap: Heap, bounds: &[u64; 32], i: u64, key: u64) -> u64 {
+pub fn segment_of(heap: Heap, table: &Table, i: u64, key: u64) -> u64 {
     if heap.levels == 1 || i == heap.buckets {
         return 1;
     }
-    let below = words::minus(bound(bounds, i), key);
+    let below = words::minus(bound(table, i), key);
     let width = power(heap.segments, words::minus(i, 1));
     words::minus(heap.segments, words::quotient(below, width))
 }
 
 // The upper end of segment k of bucket i.
-pub fn upper_end(heap: Heap, bounds: &[u64; 32], i: u64, k: u64) -> u64 {
+pub fn upper_end(heap: Heap, table: &Table, i: u64, k: u64) -> u64 {
     if heap.levels == 1 || i == heap.buckets {
-        return bound(bounds, i);
+        return bound(table, i);
     }
     let width = power(heap.segments, words::minus(i, 1));
     let above = words::product(words::minus(heap.segments, k), width);
-    words::minus(bound(bounds, i), above)
+    words::minus(bound(table, i), above)
 }
 
 // u(1) after a removal with smallest key d and upper end t.
@@ -148,12 +142,12 @@ fn lowest_bound(heap: Heap, d: u64, t: u64) -> u64 {
 }
 
 // The bounds below bucket j after a removal there.
-pub fn new_bounds(heap: Heap, bounds: &mut [u64; 32], j: u64, d: u64, t: u64) {
-    set_bound(bounds, 1, lowest_bound(heap, d, t));
+pub fn new_bounds(heap: Heap, table: &mut Table, j: u64, d: u64, t: u64) {
+    set_bound(table, 1, lowest_bound(heap, d, t));
     let mut i = 2;
     while i < j {
-        let reach = words::sum(bound(bounds, words::minus(i, 1)), size(heap, i));
-        set_bound(bounds, i, words::least(reach, t));
+        let reach = words::sum(bound(table, words::minus(i, 1)), size(heap, i));
+        set_bound(table, i, words::least(reach, t));
         i += 1;
     }
 }

@@ -1,19 +1,32 @@
-// A table of the nodes: for each thing known of a node a row of 4,096 numbers.
+// A table of what the references keep: rows of 4,096 numbers, most of them with a number for each node.
 use crate::words;
+
+pub type Table = [u64; 49152];
 
 pub const DISTANCE: u64 = 0;
 
 pub const PARENT: u64 = 1;
 
 pub const MARK: u64 = 2;
-// The bucket that a labelled node was last put in, 0 for every other node.
-pub const BUCKET: u64 = 3;
 // The nodes in the order scanned.
-pub const ORDER: u64 = 4;
+pub const ORDER: u64 = 3;
 // The nodes of a route, the destination first.
-pub const ROUTE: u64 = 5;
-// Free for whoever compares with the table.
-pub const SEEN: u64 = 6;
+pub const ROUTE: u64 = 4;
+
+// The same of the steps that are counted.
+pub const STEP_DISTANCE: u64 = 5;
+
+pub const STEP_PARENT: u64 = 6;
+
+pub const STEP_MARK: u64 = 7;
+
+pub const STEP_ORDER: u64 = 8;
+// The bucket that a labelled node was last put in, 0 for every other node.
+pub const BUCKET: u64 = 9;
+// u(i) at place i.
+pub const BOUND: u64 = 10;
+// What the steps count.
+pub const COUNT: u64 = 11;
 
 // What a node is marked as.
 pub const UNLABELLED: u64 = 0;
@@ -25,23 +38,34 @@ pub const SCANNED: u64 = 2;
 // The mark for "none" (document 01, "What the planner holds and leaves out").
 pub const NONE: u64 = 4294967295;
 
-pub fn get(nodes: &[u64], row: u64, v: u64) -> u64 {
-    words::number(nodes, words::sum(words::product(row, 4096), v))
+fn place(row: u64, v: u64) -> usize {
+    words::sum(words::product(row, 4096), v) as usize
 }
 
-pub fn set(nodes: &mut [u64], row: u64, v: u64, number: u64) {
-    words::store(nodes, words::sum(words::product(row, 4096), v), number);
+pub fn get(table: &Table, row: u64, v: u64) -> u64 {
+    let i = place(row, v);
+    if i < 49152 {
+        return table[i];
+    }
+    0
 }
 
-// Every node unlabelled, at no distance and with no parent.
-pub fn clear(n: u64, nodes: &mut [u64]) {
+pub fn set(table: &mut Table, row: u64, v: u64, number: u64) {
+    let i = place(row, v);
+    if i < 49152 {
+        table[i] = number;
+    }
+}
+
+pub fn add(table: &mut Table, row: u64, v: u64, more: u64) {
+    set(table, row, v, words::sum(get(table, row, v), more));
+}
+
+// The first numbers of a row are all the same.
+pub fn fill(table: &mut Table, row: u64, count: u64, number: u64) {
     let mut v = 0;
-    while v < n {
-        set(nodes, DISTANCE, v, NONE);
-        set(nodes, PARENT, v, NONE);
-        set(nodes, MARK, v, UNLABELLED);
-        set(nodes, BUCKET, v, 0);
-        set(nodes, SEEN, v, 0);
+    while v < count {
+        set(table, row, v, number);
         v += 1;
     }
 }

@@ -3,18 +3,21 @@ use crate::heap;
 use crate::nodes;
 use crate::words;
 
+// Bytes for the longest planning file and some more, and for every text.
+pub type Text = [u8; 65544];
+
 fn wide(byte: u8) -> u64 {
     byte as u64
 }
 
-fn store(output: &mut [u8], at: u64, byte: u64) {
+fn store(output: &mut Text, at: u64, byte: u64) {
     let i = at as usize;
-    if i < output.len() {
+    if i < 65544 {
         output[i] = (byte % 256) as u8;
     }
 }
 
-pub fn put(output: &mut [u8], at: u64, byte: u64) -> u64 {
+pub fn put(output: &mut Text, at: u64, byte: u64) -> u64 {
     store(output, at, byte);
     words::sum(at, 1)
 }
@@ -31,7 +34,7 @@ fn digits(number: u64) -> u64 {
     count
 }
 
-pub fn number(output: &mut [u8], at: u64, written: u64) -> u64 {
+pub fn number(output: &mut Text, at: u64, written: u64) -> u64 {
     let mut left = digits(written);
     let mut place = at;
     while left > 0 {
@@ -43,7 +46,7 @@ pub fn number(output: &mut [u8], at: u64, written: u64) -> u64 {
 }
 
 // A number, or the sign for none.
-fn number_or_none(output: &mut [u8], at: u64, word: u64) -> u64 {
+fn number_or_none(output: &mut Text, at: u64, word: u64) -> u64 {
     if word == nodes::NONE {
         return put(output, at, 45);
     }
@@ -51,17 +54,17 @@ fn number_or_none(output: &mut [u8], at: u64, word: u64) -> u64 {
 }
 
 // A comma, then the number.
-pub fn next_number(output: &mut [u8], at: u64, word: u64) -> u64 {
+pub fn next_number(output: &mut Text, at: u64, word: u64) -> u64 {
     let past = put(output, at, 44);
     number_or_none(output, past, word)
 }
 
-pub fn line_feed(output: &mut [u8], at: u64) -> u64 {
+pub fn line_feed(output: &mut Text, at: u64) -> u64 {
     put(output, at, 10)
 }
 
 // A word of up to seven letters.
-pub fn word(output: &mut [u8], at: u64, letters: &[u8; 7], count: usize) -> u64 {
+pub fn word(output: &mut Text, at: u64, letters: &[u8; 7], count: usize) -> u64 {
     let mut place = at;
     let mut i = 0;
     while i < count && i < 7 {

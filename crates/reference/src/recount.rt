@@ -1,17 +1,25 @@
 // The steps of both heaps and their counts, taken literally: each question is a loop over all nodes (document 01, "The tallies").
+use crate::case::Case;
 use crate::heap;
 use crate::heap::Heap;
+use crate::map;
+use crate::map::Lists;
 use crate::nodes;
+use crate::nodes::Table;
 use crate::words;
 
-// What the steps count.
-const INSERTIONS: usize = 0;
+// What the steps count, and the highest bucket that a removal used.
+const INSERTIONS: u64 = 0;
 
-const DECREASES: usize = 1;
+const DECREASES: u64 = 1;
 
-const SHIFTS: usize = 2;
+const SHIFTS: u64 = 2;
 
-const LOOKS: usize = 3;
+const LOOKS: u64 = 3;
+
+const HIGHEST: u64 = 4;
+
+const COUNTS: u64 = 5;
 
 pub struct Counts {
     pub reached: u64,
@@ -19,16 +27,23 @@ pub struct Counts {
     pub decreases: u64,
     pub placements: u64,
     pub looks: u64,
+    pub highest: u64,
 }
 
-fn tally(counts: &mut [u64; 4], which: usize, more: u64) {
-    if which < 4 {
-        counts[which] = words::sum(counts[which], more);
-    }
+fn count(table: &Table, which: u64) -> u64 {
+    nodes::get(table, nodes::COUNT, which)
+}
+
+fn tally(table: &mut Table, which: u64, more: u64) {
+    nodes::add(table, nodes::COUNT, which, more);
+}
+
+fn key_of(table: &Table, v: u64) -> u64 {
+    nodes::get(table, nodes::STEP_DISTANCE, v)
 }
 
 // The lowest bucket that is not empty; 0 if nothing is labelled.
-fn lowest_bucket(n: u64, table: &[u64]) -> u64 {
+fn lowest_bucket(n: u64, table: &Table) -> u64 {
     let mut lowest = 0;
     let mut v = 0;
     while v < n {
@@ -42,12 +57,12 @@ fn lowest_bucket(n: u64, table: &[u64]) -> u64 {
 }
 
 // The lowest segment of bucket j that is not empty.
-fn lowest_segment(heap: Heap, n: u64, bounds: &[u64; 32], table: &[u64], j: u64) -> u64 {
+fn lowest_segment(heap: Heap, n: u64, table: &Table, j: u64) -> u64 {
     let mut lowest = 0;
     let mut v = 0;
     while v < n {
         if nodes::get(table, nodes::BUCKET, v) == j {
-            let segment = heap::segment_of(heap, bounds, j, nodes::get(table, nodes::DISTANCE, v));
+            let segment = heap::segment_of(heap, table, j, key_of(table, v));
             if lowest == 0 || segment < lowest {
                 lowest = segment;
             }
@@ -58,22 +73,20 @@ fn lowest_segment(heap: Heap, n: u64, bounds: &[u64; 32], table: &[u64], j: u64)
 }
 
 // Whether node v stands in segment k of bucket j.
-fn stands_in(heap: Heap, bounds: &[u64; 32], table: &[u64], v: u64, j: u64, k: u64) -> bool {
+fn stands_in(heap: Heap, table: &Table, v: u64, j: u64, k: u64) -> bool {
     if nodes::get(table, nodes::BUCKET, v) != j {
         return false;
     }
-    heap::segment_of(heap, bounds, j, nodes::get(table, nodes::DISTANCE, v)) == k
+    heap::segment_of(heap, table, j, key_of(table, v)) == k
 }
 
 // The node of smallest key in segment k of bucket j, and of smallest number among equals.
-fn smallest(heap: Heap, n: u64, bounds: &[u64; 32], table: &[u64], j: u64, k: u64) -> u64 {
+fn smallest(heap: Heap, n: u64, table: &Table, j: u64, k: u64) -> u64 {
     let mut best = n;
     let mut v = 0;
     while v < n {
-        if stands_in(heap, bounds, table, v, j, k) {
-            if best == n
-                || nodes::get(table, nodes::DISTANCE, v) < nodes::get(table, nodes::DISTANCE, best)
-            {
+        if stands_in(heap, table, v, j, k) {
+            if best == n || key_of(table, v) < key_of(table, best) {
                 best = v;
             }
         }
@@ -83,35 +96,19 @@ fn smallest(heap: Heap, n: u64, bounds: &[u64; 32], table: &[u64], j: u64, k: u6
 }
 
 // A node that stands in segment k of bucket j goes to its new place.
-fn shift(
-    heap: Heap,
-    bounds: &[u64; 32],
-    table: &mut [u64],
-    counts: &mut [u64; 4],
-    v: u64,
-    j: u64,
-    k: u64,
-) {
-    if stands_in(heap, bounds, table, v, j, k) {
-        let bucket = heap::bucket_of(bounds, j, nodes::get(table, nodes::DISTANCE, v));
+fn shift(heap: Heap, table: &mut Table, v: u64, j: u64, k: u64) {
+    if stands_in(heap, table, v, j, k) {
+        let bucket = heap::bucket_of(table, j, key_of(table, v));
         nodes::set(table, nodes::BUCKET, v, bucket);
-        tally(counts, SHIFTS, 1);
+        tally(table, SHIFTS, 1);
     }
 }
 
 // The nodes that are left in segment k of bucket j are shifted.
-fn shift_all(
-    heap: Heap,
-    n: u64,
-    bounds: &[u64; 32],
-    table: &mut [u64],
-    counts: &mut [u64; 4],
-    j: u64,
-    k: u64,
-) {
+fn shift_all(heap: Heap, n: u64, table: &mut Table, j: u64, k: u64) {
     let mut v = 0;
     while v < n {
-        shift(heap, bounds, table, counts, v, j, k);
+        shift(heap, table, v, j, k);
         v += 1;
     }
 }
@@ -124,157 +121,128 @@ fn looks(heap: Heap, j: u64, k: u64) -> u64 {
     j
 }
 
+// A removal from segment k of bucket j.
+fn tally_removal(heap: Heap, table: &mut Table, j: u64, k: u64) {
+    tally(table, LOOKS, looks(heap, j, k));
+    let highest = words::most(count(table, HIGHEST), j);
+    nodes::set(table, nodes::COUNT, HIGHEST, highest);
+}
+
+// The new bounds and the shifts of a removal with smallest key d, where j is not 1.
+fn renew(heap: Heap, n: u64, table: &mut Table, j: u64, k: u64, d: u64) {
+    let t = heap::upper_end(heap, table, j, k);
+    heap::new_bounds(heap, table, j, d, t);
+    shift_all(heap, n, table, j, k);
+}
+
+// Node v leaves segment k of bucket j.
+fn take(heap: Heap, n: u64, table: &mut Table, v: u64, j: u64, k: u64) {
+    nodes::set(table, nodes::STEP_MARK, v, nodes::SCANNED);
+    nodes::set(table, nodes::BUCKET, v, 0);
+    if j > 1 {
+        renew(heap, n, table, j, k, key_of(table, v));
+    }
+}
+
 // Removal of the minimum: its node, or n if nothing is labelled.
-fn remove(
-    heap: Heap,
-    n: u64,
-    bounds: &mut [u64; 32],
-    table: &mut [u64],
-    counts: &mut [u64; 4],
-) -> u64 {
+fn remove(heap: Heap, n: u64, table: &mut Table) -> u64 {
     let j = lowest_bucket(n, table);
     if j == 0 {
         return n;
     }
-    let k = lowest_segment(heap, n, bounds, table, j);
-    tally(counts, LOOKS, looks(heap, j, k));
-    let v = smallest(heap, n, bounds, table, j, k);
-    let d = nodes::get(table, nodes::DISTANCE, v);
-    nodes::set(table, nodes::MARK, v, nodes::SCANNED);
-    nodes::set(table, nodes::BUCKET, v, 0);
-    if j > 1 {
-        let t = heap::upper_end(heap, bounds, j, k);
-        heap::new_bounds(heap, bounds, j, d, t);
-        shift_all(heap, n, bounds, table, counts, j, k);
-    }
+    let k = lowest_segment(heap, n, table, j);
+    let v = smallest(heap, n, table, j, k);
+    tally_removal(heap, table, j, k);
+    take(heap, n, table, v, j, k);
     v
 }
 
-fn insert(
-    heap: Heap,
-    bounds: &[u64; 32],
-    table: &mut [u64],
-    counts: &mut [u64; 4],
-    v: u64,
-    key: u64,
-) {
-    nodes::set(table, nodes::MARK, v, nodes::LABELLED);
-    nodes::set(table, nodes::DISTANCE, v, key);
-    let bucket = heap::bucket_of(bounds, heap.buckets, key);
+// A node's new key and bucket, the search for which starts at a bucket.
+fn place(table: &mut Table, v: u64, key: u64, start: u64) {
+    let bucket = heap::bucket_of(table, start, key);
+    nodes::set(table, nodes::STEP_DISTANCE, v, key);
     nodes::set(table, nodes::BUCKET, v, bucket);
-    tally(counts, INSERTIONS, 1);
+}
+
+fn insert(heap: Heap, table: &mut Table, v: u64, key: u64) {
+    nodes::set(table, nodes::STEP_MARK, v, nodes::LABELLED);
+    place(table, v, key, heap.buckets);
+    tally(table, INSERTIONS, 1);
 }
 
 // The search starts at the present bucket.
-fn decrease(bounds: &[u64; 32], table: &mut [u64], counts: &mut [u64; 4], v: u64, key: u64) {
-    nodes::set(table, nodes::DISTANCE, v, key);
-    let bucket = heap::bucket_of(bounds, nodes::get(table, nodes::BUCKET, v), key);
-    nodes::set(table, nodes::BUCKET, v, bucket);
-    tally(counts, DECREASES, 1);
+fn decrease(table: &mut Table, v: u64, key: u64) {
+    place(table, v, key, nodes::get(table, nodes::BUCKET, v));
+    tally(table, DECREASES, 1);
 }
 
-fn relax(
-    heap: Heap,
-    bounds: &[u64; 32],
-    heads: &[u32],
-    costs: &[u32],
-    table: &mut [u64],
-    counts: &mut [u64; 4],
-    tail: u64,
-    arc: u64,
-) {
-    let head = words::word(heads, arc);
-    let key = words::sum(
-        nodes::get(table, nodes::DISTANCE, tail),
-        words::word(costs, arc),
-    );
-    if nodes::get(table, nodes::MARK, head) == nodes::UNLABELLED {
-        insert(heap, bounds, table, counts, head, key);
-        nodes::set(table, nodes::PARENT, head, arc);
+// The head of an arc with its distance over this arc: inserted, decreased or left.
+fn label(heap: Heap, table: &mut Table, head: u64, key: u64, arc: u64) {
+    if nodes::get(table, nodes::STEP_MARK, head) == nodes::UNLABELLED {
+        insert(heap, table, head, key);
+        nodes::set(table, nodes::STEP_PARENT, head, arc);
         return;
     }
-    if key < nodes::get(table, nodes::DISTANCE, head) {
-        decrease(bounds, table, counts, head, key);
-        nodes::set(table, nodes::PARENT, head, arc);
+    if key < key_of(table, head) {
+        decrease(table, head, key);
+        nodes::set(table, nodes::STEP_PARENT, head, arc);
     }
 }
 
-fn scan(
-    heap: Heap,
-    bounds: &[u64; 32],
-    starts: &[u32],
-    heads: &[u32],
-    costs: &[u32],
-    table: &mut [u64],
-    counts: &mut [u64; 4],
-    v: u64,
-) {
-    let end = words::word(starts, words::sum(v, 1));
-    let mut arc = words::word(starts, v);
+fn scan(heap: Heap, lists: &Lists, table: &mut Table, v: u64) {
+    let end = map::start(lists, words::sum(v, 1));
+    let mut arc = map::start(lists, v);
     while arc < end {
-        relax(heap, bounds, heads, costs, table, counts, v, arc);
+        let key = words::sum(key_of(table, v), map::cost(lists, arc));
+        label(heap, table, map::head(lists, arc), key, arc);
         arc += 1;
     }
 }
 
 // Removals until nothing is labelled; each scanned node's place in the order is kept.
-fn remove_all(
-    heap: Heap,
-    n: u64,
-    starts: &[u32],
-    heads: &[u32],
-    costs: &[u32],
-    bounds: &mut [u64; 32],
-    table: &mut [u64],
-    counts: &mut [u64; 4],
-) -> u64 {
+fn remove_all(heap: Heap, n: u64, lists: &Lists, table: &mut Table) -> u64 {
     let mut scanned = 0;
     while scanned < n {
-        let v = remove(heap, n, bounds, table, counts);
+        let v = remove(heap, n, table);
         if v == n {
             return scanned;
         }
-        nodes::set(table, nodes::ORDER, scanned, v);
-        scan(heap, bounds, starts, heads, costs, table, counts, v);
+        nodes::set(table, nodes::STEP_ORDER, scanned, v);
+        scan(heap, lists, table, v);
         scanned += 1;
     }
     scanned
 }
 
-// The counts of a run with one level or with two, and its table.
-pub fn run(
-    levels: u64,
-    n: u64,
-    ceiling: u64,
-    source: u64,
-    segments: u64,
-    starts: &[u32],
-    heads: &[u32],
-    costs: &[u32],
-    table: &mut [u64],
-) -> Counts {
-    let heap = heap::heap_of(levels, n, ceiling, segments);
-    let mut bounds = [0u64; 32];
-    let mut counts = [0u64; 4];
-    heap::first_bounds(heap, &mut bounds);
-    nodes::clear(n, table);
-    insert(heap, &bounds, table, &mut counts, source, 0);
-    let reached = remove_all(
-        heap,
-        n,
-        starts,
-        heads,
-        costs,
-        &mut bounds,
-        table,
-        &mut counts,
-    );
-    let moved = words::sum(counts[DECREASES], counts[SHIFTS]);
+// Every node unlabelled, at no distance and with no parent, and nothing counted.
+fn clear(n: u64, table: &mut Table) {
+    nodes::fill(table, nodes::STEP_DISTANCE, n, nodes::NONE);
+    nodes::fill(table, nodes::STEP_PARENT, n, nodes::NONE);
+    nodes::fill(table, nodes::STEP_MARK, n, nodes::UNLABELLED);
+    nodes::fill(table, nodes::BUCKET, n, 0);
+    nodes::fill(table, nodes::COUNT, COUNTS, 0);
+}
+
+// Insertions, decreases and shifts.
+fn placements(table: &Table) -> u64 {
+    let moved = words::sum(count(table, DECREASES), count(table, SHIFTS));
+    words::sum(count(table, INSERTIONS), moved)
+}
+
+// The counts of a run with one level or with two, and its rows of the table.
+pub fn run(levels: u32, case: Case, lists: &Lists, table: &mut Table) -> Counts {
+    let n = case.nodes as u64;
+    let heap = heap::heap_of(levels as u64, n, case.ceiling as u64, case.segments as u64);
+    clear(n, table);
+    heap::first_bounds(heap, table);
+    insert(heap, table, case.source as u64, 0);
+    let reached = remove_all(heap, n, lists, table);
     Counts {
         reached,
         buckets: heap.buckets,
-        decreases: counts[DECREASES],
-        placements: words::sum(counts[INSERTIONS], moved),
-        looks: counts[LOOKS],
+        decreases: count(table, DECREASES),
+        placements: placements(table),
+        looks: count(table, LOOKS),
+        highest: count(table, HIGHEST),
     }
 }

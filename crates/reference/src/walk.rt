@@ -1,5 +1,9 @@
 // The walk from a destination back to the source over the parents of a table (document 01, "Routes").
+use crate::case::Case;
+use crate::map;
+use crate::map::Lists;
 use crate::nodes;
+use crate::nodes::Table;
 use crate::refusals;
 use crate::refusals::Refusal;
 use crate::words;
@@ -11,11 +15,16 @@ pub struct Walk {
     pub nodes: u64,
 }
 
+// Whether an arc is among those of node v.
+fn leaves(lists: &Lists, v: u64, arc: u64) -> bool {
+    map::start(lists, v) <= arc && arc < map::start(lists, words::sum(v, 1))
+}
+
 // The node whose arcs an arc is among; n if none is.
-fn tail(n: u64, starts: &[u32], arc: u64) -> u64 {
+fn tail(n: u64, lists: &Lists, arc: u64) -> u64 {
     let mut v = 0;
     while v < n {
-        if words::word(starts, v) <= arc && arc < words::word(starts, words::sum(v, 1)) {
+        if leaves(lists, v, arc) {
             return v;
         }
         v += 1;
@@ -24,24 +33,20 @@ fn tail(n: u64, starts: &[u32], arc: u64) -> u64 {
 }
 
 // The node before v on its route; n if its parent does not lead to it.
-fn before(n: u64, starts: &[u32], heads: &[u32], table: &[u64], v: u64) -> u64 {
+fn before(n: u64, m: u64, lists: &Lists, table: &Table, v: u64) -> u64 {
     let arc = nodes::get(table, nodes::PARENT, v);
-    if arc >= heads.len() as u64 || words::word(heads, arc) != v {
+    if arc >= m || map::head(lists, arc) != v {
         return n;
     }
-    tail(n, starts, arc)
+    tail(n, lists, arc)
 }
 
 // The nodes from the destination back to the source are put into the table; how many they are, or 0 if the walk does not arrive in n - 1
 // arcs.
-fn walk_back(
-    n: u64,
-    source: u64,
-    starts: &[u32],
-    heads: &[u32],
-    table: &mut [u64],
-    destination: u64,
-) -> u64 {
+fn walk_back(case: Case, lists: &Lists, table: &mut Table, destination: u64) -> u64 {
+    let n = case.nodes as u64;
+    let m = case.heads as u64;
+    let source = case.source as u64;
     let mut v = destination;
     let mut walked = 0;
     while walked < n {
@@ -50,7 +55,7 @@ fn walk_back(
         if v == source {
             return walked;
         }
-        v = before(n, starts, heads, table, v);
+        v = before(n, m, lists, table, v);
         if v == n {
             return 0;
         }
@@ -59,15 +64,13 @@ fn walk_back(
 }
 
 // What a route costs: the costs of its nodes' parents, the source's left out.
-pub fn cost(nodes_of_route: u64, costs: &[u32], table: &[u64]) -> u64 {
+pub fn cost(nodes_of_route: u64, lists: &Lists, table: &Table) -> u64 {
     let mut total = 0;
     let mut i = 1;
     while i < nodes_of_route {
         let v = nodes::get(table, nodes::ROUTE, words::minus(i, 1));
-        total = words::sum(
-            total,
-            words::word(costs, nodes::get(table, nodes::PARENT, v)),
-        );
+        let arc = nodes::get(table, nodes::PARENT, v);
+        total = words::sum(total, map::cost(lists, arc));
         i += 1;
     }
     total
@@ -81,56 +84,40 @@ fn refused(refusal: Refusal) -> Walk {
     }
 }
 
-// 1, 3, 4 to 7, 10, 14 and 15, with so many words of parents and arcs.
-fn route_refusal(
-    n: u64,
-    source: u64,
-    starts: &[u32],
-    heads: &[u32],
-    parents: u64,
-    table: &[u64],
-    destination: u64,
-) -> Refusal {
-    let found = refusals::node_numbers(n, source);
+// 1, 3, 4 to 7 and 10.
+fn map_refusal(case: Case, lists: &Lists) -> Refusal {
+    let found = refusals::node_numbers(case.nodes as u64, case.source as u64);
     if found.number != 0 {
         return found;
     }
-    if heads.len() as u64 > 65536 {
+    if case.heads > 65536 {
         return refusals::refuse(4, 0);
     }
-    let found = refusals::arc_lists(n, starts, heads);
+    let found = refusals::arc_lists(case, lists);
     if found.number != 0 {
         return found;
     }
-    if parents < n {
+    if case.parents < case.nodes {
         return refusals::refuse(10, 1);
     }
-    if destination >= n {
+    found
+}
+
+// 14 and 15, after the others have found nothing.
+fn destination_refusal(case: Case, table: &Table, destination: u64) -> Refusal {
+    if destination >= case.nodes as u64 {
         return refusals::refuse(14, 0);
     }
     let parent = nodes::get(table, nodes::PARENT, destination);
-    if destination != source && parent == nodes::NONE {
+    if destination != case.source as u64 && parent == nodes::NONE {
         return refusals::refuse(15, 0);
     }
     refusals::refuse(0, 0)
 }
 
-// The route to a destination, in a list of so many words.
-pub fn route(
-    n: u64,
-    source: u64,
-    starts: &[u32],
-    heads: &[u32],
-    parents: u64,
-    table: &mut [u64],
-    destination: u64,
-    room: u64,
-) -> Walk {
-    let found = route_refusal(n, source, starts, heads, parents, table, destination);
-    if found.number != 0 {
-        return refused(found);
-    }
-    let nodes = walk_back(n, source, starts, heads, table, destination);
+// 16 and 17, or the route to a destination in a list of so many words.
+fn arrive(case: Case, lists: &Lists, table: &mut Table, destination: u64, room: u64) -> Walk {
+    let nodes = walk_back(case, lists, table, destination);
     if nodes == 0 {
         return refused(refusals::refuse(16, 0));
     }
@@ -142,4 +129,17 @@ pub fn route(
         place: 0,
         nodes,
     }
+}
+
+// The route to a destination, in a list of so many words.
+pub fn route(case: Case, lists: &Lists, table: &mut Table, destination: u64, room: u64) -> Walk {
+    let found = map_refusal(case, lists);
+    if found.number != 0 {
+        return refused(found);
+    }
+    let found = destination_refusal(case, table, destination);
+    if found.number != 0 {
+        return refused(found);
+    }
+    arrive(case, lists, table, destination, room)
 }

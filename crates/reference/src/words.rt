@@ -5,29 +5,13 @@ fn wide(word: u32) -> u64 {
     word as u64
 }
 
-// A word of a map.
+// A word of a list.
 pub fn word(list: &[u32], place: u64) -> u64 {
     let i = place as usize;
     if i < list.len() {
         return wide(list[i]);
     }
     0
-}
-
-// A number of a list of the reference's own.
-pub fn number(list: &[u64], place: u64) -> u64 {
-    let i = place as usize;
-    if i < list.len() {
-        return list[i];
-    }
-    0
-}
-
-pub fn store(list: &mut [u64], place: u64, number: u64) {
-    let i = place as usize;
-    if i < list.len() {
-        list[i] = number;
-    }
 }
 
 // Sums stay far below 2^64.

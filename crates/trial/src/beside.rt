@@ -1,75 +1,24 @@
 // A run beside the references: its answer, and every word of the lists lent to it (document 01, "What the planner holds and leaves out").
-use crate::case;
-use crate::case::Case;
 use crate::lists;
 use model::Node;
 use model::RunAnswer;
-use reference::expected;
+use reference::case::Case;
 use reference::expected::Expected;
+use reference::map;
+use reference::map::Lists;
 use reference::nodes;
+use reference::nodes::Table;
 use reference::words;
 
-// The kinds of junk.
-const DISTANCES: u64 = 1;
+// The lists that a run fills, each with words past the most that it is lent.
+pub type ByNode = [u32; 4112];
 
-const PARENTS: u64 = 2;
+type Work = [u32; 16784];
 
-const ROSTER: u64 = 3;
-
-const WORK: u64 = 4;
-
-// The run with one level or with two.
-fn plan(
-    levels: u32,
+// The run with one level; as many words of each list are lent as the case says.
+fn one_level(
     case: Case,
-    starts: &[u32],
-    heads: &[u32],
-    costs: &[u32],
-    distances: &mut [u32],
-    parents: &mut [u32],
-    roster: &mut [u32],
-    work: &mut [u32],
-) -> RunAnswer {
-    let n = case.nodes;
-    let ceiling = case.ceiling;
-    let source = Node(case.source);
-    if levels == 1 {
-        return runs::one_level(
-            n,
-            ceiling,
-            source,
-            starts,
-            heads,
-            costs,
-            distances,
-            parents,
-            roster,
-            work,
-        );
-    }
-    let segments = case.segments;
-    runs::two_level(
-        n,
-        ceiling,
-        source,
-        segments,
-        starts,
-        heads,
-        costs,
-        distances,
-        parents,
-        roster,
-        work,
-    )
-}
-
-// As many words of each list are lent as the case says.
-fn lend(
-    levels: u32,
-    case: Case,
-    starts: &[u32],
-    heads: &[u32],
-    costs: &[u32],
+    lists: &Lists,
     distances: &mut [u32],
     parents: &mut [u32],
     roster: &mut [u32],
@@ -79,12 +28,13 @@ fn lend(
     let in_parents = lists::least(case.parents, parents.len());
     let in_roster = lists::least(case.roster, roster.len());
     let in_work = lists::least(case.work, work.len());
-    plan(
-        levels,
-        case,
-        starts,
-        heads,
-        costs,
+    runs::one_level(
+        case.nodes,
+        case.ceiling,
+        Node(case.source),
+        lists::part(lists, map::STARTS, case.starts),
+        lists::part(lists, map::HEADS, case.heads),
+        lists::part(lists, map::COSTS, case.costs),
         &mut distances[..in_distances],
         &mut parents[..in_parents],
         &mut roster[..in_roster],
@@ -92,7 +42,51 @@ fn lend(
     )
 }
 
-fn differing_accepted(
+fn two_level(
+    case: Case,
+    lists: &Lists,
+    distances: &mut [u32],
+    parents: &mut [u32],
+    roster: &mut [u32],
+    work: &mut [u32],
+) -> RunAnswer {
+    let in_distances = lists::least(case.distances, distances.len());
+    let in_parents = lists::least(case.parents, parents.len());
+    let in_roster = lists::least(case.roster, roster.len());
+    let in_work = lists::least(case.work, work.len());
+    runs::two_level(
+        case.nodes,
+        case.ceiling,
+        Node(case.source),
+        case.segments,
+        lists::part(lists, map::STARTS, case.starts),
+        lists::part(lists, map::HEADS, case.heads),
+        lists::part(lists, map::COSTS, case.costs),
+        &mut distances[..in_distances],
+        &mut parents[..in_parents],
+        &mut roster[..in_roster],
+        &mut work[..in_work],
+    )
+}
+
+// The run with one level or with two.
+fn plan(
+    levels: u32,
+    case: Case,
+    lists: &Lists,
+    distances: &mut ByNode,
+    parents: &mut ByNode,
+    roster: &mut ByNode,
+    work: &mut Work,
+) -> RunAnswer {
+    if levels == 1 {
+        return one_level(case, lists, distances, parents, roster, work);
+    }
+    two_level(case, lists, distances, parents, roster, work)
+}
+
+// How many numbers of a run are not those expected.
+fn differing_numbers(
     reached: u32,
     buckets: u32,
     decreases: u32,
@@ -100,7 +94,6 @@ fn differing_accepted(
     looks: u32,
     expected: Expected,
 ) -> u64 {
-    let number = lists::differ(0, expected.number);
     let size = words::sum(
         lists::differ(reached as u64, expected.reached),
         lists::differ(buckets as u64, expected.buckets),
@@ -110,7 +103,7 @@ fn differing_accepted(
         lists::differ(placements as u64, expected.placements),
     );
     let examined = lists::differ(looks as u64, expected.looks);
-    words::sum(words::sum(number, size), words::sum(moves, examined))
+    words::sum(size, words::sum(moves, examined))
 }
 
 // How many numbers of an answer are not those expected.
@@ -122,7 +115,10 @@ fn differing_answer(answer: RunAnswer, expected: Expected) -> u64 {
             decreases,
             placements,
             looks,
-        } => differing_accepted(reached, buckets, decreases, placements, looks, expected),
+        } => words::sum(
+            lists::differ(0, expected.number),
+            differing_numbers(reached, buckets, decreases, placements, looks, expected),
+        ),
         RunAnswer::Refused { number, place } => words::sum(
             lists::differ(number as u64, expected.number),
             lists::differ(place as u64, expected.place),
@@ -130,233 +126,85 @@ fn differing_answer(answer: RunAnswer, expected: Expected) -> u64 {
     }
 }
 
-// The roster's node at a place is one that was scanned, stands there for the first time and is no nearer than the one before.
-fn roster_fault(n: u64, roster: &[u32], table: &mut [u64], i: u64) -> u64 {
-    let v = words::word(roster, i);
-    let before = words::word(roster, words::minus(i, 1));
-    if v >= n || before >= n {
-        return 1;
-    }
-    let distance = nodes::get(table, nodes::DISTANCE, v);
-    let seen = nodes::get(table, nodes::SEEN, v);
-    nodes::set(table, nodes::SEEN, v, 1);
-    if distance < nodes::get(table, nodes::DISTANCE, before) || seen == 1 {
-        return 1;
-    }
-    lists::differ(nodes::get(table, nodes::MARK, v), nodes::SCANNED)
+// The leading words of each list that a run fills: none after a refusal.
+struct Filled {
+    by_node: u64,
+    roster: u64,
+    work: u64,
 }
 
-fn roster_faults(n: u64, reached: u64, roster: &[u32], table: &mut [u64]) -> u64 {
-    let mut found = 0;
-    let mut i = 0;
-    while i < reached {
-        found = words::sum(found, roster_fault(n, roster, table, i));
-        i += 1;
+fn filled_of(levels: u32, case: Case, expected: Expected) -> Filled {
+    if expected.number != 0 {
+        return Filled {
+            by_node: 0,
+            roster: 0,
+            work: 0,
+        };
     }
-    found
-}
-
-// The leading work words that a run sets to 0.
-fn work_words(levels: u32, n: u64) -> u64 {
-    if levels == 1 {
-        return words::sum(words::product(4, n), 64);
-    }
-    words::sum(words::product(4, n), 384)
-}
-
-// How many words are not as an accepted run is to leave them.
-fn differing_lists(
-    levels: u32,
-    case: Case,
-    reached: u64,
-    distances: &[u32],
-    parents: &[u32],
-    roster: &[u32],
-    work: &[u32],
-    table: &mut [u64],
-) -> u64 {
     let n = case.nodes as u64;
-    let end = work_words(levels, n);
-    let in_distances = lists::differing(distances, table, nodes::DISTANCE, n);
-    let in_parents = lists::differing(parents, table, nodes::PARENT, n);
-    let in_roster = roster_faults(n, reached, roster, table);
-    let in_work = lists::uncleared(work, end);
-    let filled = words::sum(
+    let mut more = 64;
+    if levels == 2 {
+        more = 384;
+    }
+    Filled {
+        by_node: n,
+        roster: expected.reached,
+        work: words::sum(words::product(4, n), more),
+    }
+}
+
+// How many words are not as the run is to leave them. The roster is in the order scanned.
+fn differing_words(
+    filled: Filled,
+    distances: &ByNode,
+    parents: &ByNode,
+    roster: &ByNode,
+    work: &Work,
+    table: &Table,
+) -> u64 {
+    let n = filled.by_node;
+    let in_distances = lists::not_row(distances, lists::DISTANCES, table, nodes::DISTANCE, n);
+    let in_parents = lists::not_row(parents, lists::PARENTS, table, nodes::PARENT, n);
+    let in_roster = lists::not_row(roster, lists::ROSTER, table, nodes::ORDER, filled.roster);
+    let in_work = lists::not_cleared(work, lists::WORK, filled.work);
+    words::sum(
         words::sum(in_distances, in_parents),
         words::sum(in_roster, in_work),
-    );
-    words::sum(
-        filled,
-        touched(n, reached, end, distances, parents, roster, work),
     )
 }
 
-// How many words past these places are not as they were.
-fn touched(
-    n: u64,
-    reached: u64,
-    end: u64,
-    distances: &[u32],
-    parents: &[u32],
-    roster: &[u32],
-    work: &[u32],
-) -> u64 {
-    let by_node = words::sum(
-        lists::touched(distances, DISTANCES, n),
-        lists::touched(parents, PARENTS, n),
-    );
-    let others = words::sum(
-        lists::touched(roster, ROSTER, reached),
-        lists::touched(work, WORK, end),
-    );
-    words::sum(by_node, others)
+// Lists full of junk.
+fn soil(distances: &mut ByNode, parents: &mut ByNode, roster: &mut ByNode, work: &mut Work) {
+    lists::soil(distances, lists::DISTANCES);
+    lists::soil(parents, lists::PARENTS);
+    lists::soil(roster, lists::ROSTER);
+    lists::soil(work, lists::WORK);
 }
 
-// How many words are not as the run is to leave them: after a refusal all are as they were.
-fn differing_words(
-    levels: u32,
-    case: Case,
-    expected: Expected,
-    distances: &[u32],
-    parents: &[u32],
-    roster: &[u32],
-    work: &[u32],
-    table: &mut [u64],
-) -> u64 {
-    if expected.number != 0 {
-        return touched(0, 0, 0, distances, parents, roster, work);
-    }
-    let reached = expected.reached;
-    differing_lists(
-        levels,
-        case,
-        reached,
-        distances,
-        parents,
-        roster,
-        work,
-        table,
-    )
-}
-
-// The run on lists that are full of junk.
-fn run_on_junk(
-    levels: u32,
-    case: Case,
-    starts: &[u32],
-    heads: &[u32],
-    costs: &[u32],
-    distances: &mut [u32],
-    parents: &mut [u32],
-    roster: &mut [u32],
-    work: &mut [u32],
-) -> RunAnswer {
-    lists::soil(distances, DISTANCES);
-    lists::soil(parents, PARENTS);
-    lists::soil(roster, ROSTER);
-    lists::soil(work, WORK);
-    lend(
-        levels,
-        case,
-        starts,
-        heads,
-        costs,
-        distances,
-        parents,
-        roster,
-        work,
-    )
-}
-
-fn expect(
-    levels: u32,
-    case: Case,
-    starts: &[u32],
-    heads: &[u32],
-    costs: &[u32],
-    searched: &mut [u64],
-    counted: &mut [u64],
-) -> Expected {
-    expected::run(
-        levels as u64,
-        case.nodes as u64,
-        case.ceiling as u64,
-        case.source as u64,
-        case.segments as u64,
-        starts,
-        heads,
-        costs,
-        case::lent(case),
-        searched,
-        counted,
-    )
-}
-
-// How many numbers and words of a run are not as they are expected; the table that the references give is left behind.
-fn differences(
-    levels: u32,
-    case: Case,
-    starts: &[u32],
-    heads: &[u32],
-    costs: &[u32],
-    distances: &mut [u32],
-    parents: &mut [u32],
-    roster: &mut [u32],
-    work: &mut [u32],
-    searched: &mut [u64],
-    counted: &mut [u64],
-) -> u64 {
-    let expected = expect(levels, case, starts, heads, costs, searched, counted);
-    let answer = run_on_junk(
-        levels,
-        case,
-        starts,
-        heads,
-        costs,
-        distances,
-        parents,
-        roster,
-        work,
-    );
-    let numbers = differing_answer(answer, expected);
-    let lists = differing_words(
-        levels,
-        case,
-        expected,
-        distances,
-        parents,
-        roster,
-        work,
-        searched,
-    );
-    words::sum(words::sum(numbers, lists), expected.differing)
-}
-
-// The same of a case, which says how many words of each list are lent.
+// How many numbers and words of a run are not as they are expected, with the table that the references have left. The parents stay.
 pub fn run(
     levels: u32,
     case: Case,
-    starts: &[u32],
-    heads: &[u32],
-    costs: &[u32],
-    distances: &mut [u32],
-    parents: &mut [u32],
-    roster: &mut [u32],
-    work: &mut [u32],
-    searched: &mut [u64],
-    counted: &mut [u64],
+    expected: Expected,
+    lists: &Lists,
+    parents: &mut ByNode,
+    table: &Table,
 ) -> u64 {
-    differences(
+    let mut distances = [0u32; 4112];
+    let mut roster = [0u32; 4112];
+    let mut work = [0u32; 16784];
+    soil(&mut distances, parents, &mut roster, &mut work);
+    let answer = plan(
         levels,
         case,
-        lists::prefix(starts, case.starts),
-        lists::prefix(heads, case.heads),
-        lists::prefix(costs, case.costs),
-        distances,
+        lists,
+        &mut distances,
         parents,
-        roster,
-        work,
-        searched,
-        counted,
-    )
+        &mut roster,
+        &mut work,
+    );
+    let filled = filled_of(levels, case, expected);
+    let numbers = differing_answer(answer, expected);
+    let in_lists = differing_words(filled, &distances, parents, &roster, &work, table);
+    words::sum(words::sum(numbers, in_lists), expected.differing)
 }

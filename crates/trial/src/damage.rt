@@ -1,13 +1,14 @@
 // Planning files damaged: bytes changed, dropped or doubled, lines dropped, doubled or swapped, the end cut.
 use crate::random;
 use reference::printing;
+use reference::printing::Text;
 use reference::reading;
 use reference::words;
 
 const LINE_FEED: u64 = 10;
 
 // Where the line that holds a place begins.
-fn line_start(bytes: &[u8], place: u64) -> u64 {
+fn line_start(bytes: &Text, place: u64) -> u64 {
     let mut at = place;
     while at > 0 {
         if reading::byte(bytes, words::minus(at, 1)) == LINE_FEED {
@@ -19,7 +20,7 @@ fn line_start(bytes: &[u8], place: u64) -> u64 {
 }
 
 // The place past the line feed that follows a place.
-fn line_end(bytes: &[u8], place: u64, length: u64) -> u64 {
+fn line_end(bytes: &Text, place: u64, length: u64) -> u64 {
     let mut at = place;
     while at < length {
         at += 1;
@@ -31,7 +32,7 @@ fn line_end(bytes: &[u8], place: u64, length: u64) -> u64 {
 }
 
 // The bytes from one place to another, behind what the copy has.
-fn append(bytes: &[u8], from: u64, end: u64, copy: &mut [u8], at: u64) -> u64 {
+fn append(bytes: &Text, from: u64, end: u64, copy: &mut Text, at: u64) -> u64 {
     let mut place = at;
     let mut i = from;
     while i < end {
@@ -42,14 +43,14 @@ fn append(bytes: &[u8], from: u64, end: u64, copy: &mut [u8], at: u64) -> u64 {
 }
 
 // Up to a, then from b to c, then from d on.
-fn pieced(bytes: &[u8], length: u64, copy: &mut [u8], a: u64, b: u64, c: u64, d: u64) -> u64 {
+fn pieced(bytes: &Text, length: u64, copy: &mut Text, a: u64, b: u64, c: u64, d: u64) -> u64 {
     let at = append(bytes, 0, a, copy, 0);
     let at = append(bytes, b, c, copy, at);
     append(bytes, d, length, copy, at)
 }
 
 // The line from start to end is swapped with the next, which ends at `next`.
-fn swapped(bytes: &[u8], length: u64, copy: &mut [u8], start: u64, end: u64, next: u64) -> u64 {
+fn swapped(bytes: &Text, length: u64, copy: &mut Text, start: u64, end: u64, next: u64) -> u64 {
     let at = append(bytes, 0, start, copy, 0);
     let at = append(bytes, end, next, copy, at);
     let at = append(bytes, start, end, copy, at);
@@ -57,13 +58,13 @@ fn swapped(bytes: &[u8], length: u64, copy: &mut [u8], start: u64, end: u64, nex
 }
 
 // The line at a place is dropped, doubled or swapped with the next.
-fn damaged_line(bytes: &[u8], length: u64, copy: &mut [u8], kind: u32, place: u64) -> u64 {
+fn damaged_line(bytes: &Text, length: u64, copy: &mut Text, kind: u32, place: u64) -> u64 {
     let start = line_start(bytes, place);
     let end = line_end(bytes, start, length);
-    if kind == 0 {
+    if kind == 1 {
         return pieced(bytes, length, copy, start, end, end, end);
     }
-    if kind == 1 {
+    if kind == 2 {
         return pieced(bytes, length, copy, end, start, end, end);
     }
     swapped(
@@ -91,7 +92,7 @@ fn any_byte(word: u64) -> u64 {
 }
 
 // A byte is changed, put in or taken out.
-fn damaged_byte(bytes: &[u8], length: u64, copy: &mut [u8], word: u64, place: u64) -> u64 {
+fn damaged_byte(bytes: &Text, length: u64, copy: &mut Text, word: u64, place: u64) -> u64 {
     let after = words::sum(place, 1);
     let kind = random::below(word, 4);
     if kind == 0 {
@@ -106,22 +107,15 @@ fn damaged_byte(bytes: &[u8], length: u64, copy: &mut [u8], word: u64, place: u6
 }
 
 // The copy of a file damaged in one way; its length.
-pub fn damaged(bytes: &[u8], length: u64, copy: &mut [u8], word: u64) -> u64 {
+pub fn damaged(bytes: &Text, length: u64, copy: &mut Text, word: u64) -> u64 {
     let second = random::next(word);
-    let place = words::product(random::below(random::next(second), 1048576) as u64, length)
-        / 1048576;
-    match random::below(second, 8) {
+    let third = random::next(second);
+    let place = words::product(random::below(third, 1048576) as u64, length) / 1048576;
+    let kind = random::below(second, 8);
+    match kind {
         0 => append(bytes, 0, place, copy, 0),
-        1 => damaged_line(bytes, length, copy, 0, place),
-        2 => damaged_line(bytes, length, copy, 1, place),
-        3 => damaged_line(bytes, length, copy, 2, place),
+        1..=3 => damaged_line(bytes, length, copy, kind, place),
         4 => append(bytes, 0, length, copy, 0),
-        _ => damaged_byte(
-            bytes,
-            length,
-            copy,
-            random::next(random::next(second)),
-            place,
-        ),
+        _ => damaged_byte(bytes, length, copy, random::next(third), place),
     }
 }

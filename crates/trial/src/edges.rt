@@ -1,8 +1,9 @@
 // Cases at the edge of every refusal (document 01, "What a call returns"): a small map of which one or two numbers or words are put to an
 // edge, so that the order of the checks shows too.
-use crate::case::Case;
-use crate::lists;
 use crate::random;
+use reference::case::Case;
+use reference::map;
+use reference::map::Lists;
 
 // One of three numbers.
 fn one_of(word: u64, first: u32, second: u32, third: u32) -> u32 {
@@ -100,38 +101,28 @@ pub fn numbers(case: Case, refusal: u32, word: u64) -> Case {
     }
 }
 
+// A word of starts: any small number, m, or m + 1.
+fn edge_start(case: Case, word: u64) -> u32 {
+    one_of(word, random::below(word, 6), case.heads, after(case.heads))
+}
+
+fn edge_head(case: Case, word: u64) -> u32 {
+    one_of(word, before(case.nodes), case.nodes, 4294967295)
+}
+
+fn edge_cost(case: Case, word: u64) -> u32 {
+    one_of(word, case.ceiling, after(case.ceiling), 4294967295)
+}
+
 // The map with a word that a refusal is about at an edge.
-pub fn words(
-    case: Case,
-    refusal: u32,
-    word: u64,
-    starts: &mut [u32],
-    heads: &mut [u32],
-    costs: &mut [u32],
-) {
+pub fn words(case: Case, refusal: u32, word: u64, lists: &mut Lists) {
     let second = random::next(word);
-    let arc = random::below(word, case.heads);
+    let arc = random::below(word, case.heads) as u64;
+    let node = random::below(word, case.starts) as u64;
     match refusal {
-        6 => lists::put(
-            starts,
-            random::below(word, case.starts),
-            one_of(
-                second,
-                random::below(second, 6),
-                case.heads,
-                after(case.heads),
-            ),
-        ),
-        7 => lists::put(
-            heads,
-            arc,
-            one_of(second, before(case.nodes), case.nodes, 4294967295),
-        ),
-        8 => lists::put(
-            costs,
-            arc,
-            one_of(second, case.ceiling, after(case.ceiling), 4294967295),
-        ),
+        6 => map::set(lists, map::STARTS, node, edge_start(case, second) as u64),
+        7 => map::set(lists, map::HEADS, arc, edge_head(case, second) as u64),
+        8 => map::set(lists, map::COSTS, arc, edge_cost(case, second) as u64),
         _ => {}
     }
 }

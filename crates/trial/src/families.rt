@@ -1,7 +1,11 @@
 // The families of maps: how many each has, and the numbers of each map (document 01, "Edges").
+use crate::lists;
 use crate::maps;
 use crate::maps::Map;
 use crate::random;
+use reference::case::Case;
+use reference::expected::Expected;
+use reference::words;
 
 pub const RANDOM: u32 = 0;
 
@@ -63,30 +67,39 @@ pub fn count(family: u32) -> u32 {
     }
 }
 
-pub fn print_name(family: u32) {
-    match family {
-        RANDOM => io::write_all(1, b"random"),
-        GRIDS => io::write_all(1, b"grids"),
-        CHAINS => io::write_all(1, b"chains to the last bucket"),
-        EQUAL_STARS => io::write_all(1, b"stars of equal arcs"),
-        DISTINCT_STARS => io::write_all(1, b"stars of distinct arcs"),
-        ZERO_COSTS => io::write_all(1, b"zero costs"),
-        TWO_PARTS => io::write_all(1, b"two parts"),
-        LOOPS_AND_PARALLELS => io::write_all(1, b"self-loops and parallel arcs"),
-        ALL_DECREASES => io::write_all(1, b"every arc a decrease"),
-        ONE_NODE => io::write_all(1, b"n = 1"),
-        NO_ARCS => io::write_all(1, b"m = 0"),
-        CEILINGS => io::write_all(1, b"C = 0 1 7 8 1048575"),
-        SEGMENTS => io::write_all(1, b"K = 2 to 64"),
-        MOST_NODES => io::write_all(1, b"n = 4096"),
-        MOST_ARCS => io::write_all(1, b"m = 65536"),
-        DAMAGED_PARENTS => io::write_all(1, b"routes over damaged parents"),
-        RUNS_AT_EDGES => io::write_all(1, b"runs at the edges of refusals"),
-        ROUTES_AT_EDGES => io::write_all(1, b"routes at the edges of refusals"),
-        PLANNING_FILES => io::write_all(1, b"planning files"),
-        _ => io::write_all(1, b"damaged planning files"),
+// One of several names that stand one behind the other, each ended by a bar.
+fn print_nth(number: u32, names: &[u8]) {
+    let mut ended = 0;
+    let mut i = 0;
+    while i < names.len() {
+        if names[i] == b'|' {
+            ended = std::num::wrapping_add_u32(ended, 1);
+        } else {
+            print_if(ended == number, names[i]);
+        }
+        i += 1;
     }
-    ;
+}
+
+fn print_if(wanted: bool, byte: u8) {
+    let bytes = [byte; 1];
+    if wanted {
+        io::write_all(1, &bytes);
+    }
+}
+
+pub fn print_name(family: u32) {
+    if family < 10 {
+        print_nth(
+            family,
+            b"random|grids|chains to the last bucket|stars of equal arcs|stars of distinct arcs|zero costs|two parts|self-loops and parallel arcs|every arc a decrease|n = 1|",
+        );
+    } else {
+        print_nth(
+            family - 10,
+            b"m = 0|C = 0 1 7 8 1048575|K = 2 to 64|n = 4096|m = 65536|routes over damaged parents|runs at the edges of refusals|routes at the edges of refusals|planning files|damaged planning files|",
+        );
+    }
 }
 
 // Costs up to 15, 1,023, 65,535 or 1,048,575, each as often.
@@ -127,6 +140,23 @@ pub fn small(rule: u32, number: u32) -> Map {
         measure: random::below(random::next(fourth), 6) % 6 + 1,
         seed: random::next(fourth),
     }
+}
+
+// A chain so long that its last keys stand in bucket B of both heaps: above u(B - 1), which is below (K + 2)C, where no cost is below 3C / 4.
+fn chain(number: u32) -> Map {
+    let mut map = from_first(maps::CHAIN, number);
+    let more = random::below(map.seed, 16) % 16;
+    let segments = map.segments % 65;
+    map.nodes = 2 * segments + 8 + more;
+    map.ceiling = most(map.ceiling, 4);
+    map
+}
+
+fn most(a: u32, b: u32) -> u32 {
+    if a < b {
+        return b;
+    }
+    a
 }
 
 // From node 0 on, and numbered.
@@ -219,7 +249,7 @@ fn most_arcs(number: u32) -> Map {
 pub fn map_of(family: u32, number: u32) -> Map {
     match family {
         GRIDS => small(maps::GRID, number),
-        CHAINS => from_first(maps::CHAIN, number),
+        CHAINS => chain(number),
         EQUAL_STARS => from_first(maps::EQUAL_STAR, number),
         DISTINCT_STARS => from_first(maps::DISTINCT_STAR, number),
         ZERO_COSTS => small(maps::ZERO_COSTS, number),
@@ -233,5 +263,18 @@ pub fn map_of(family: u32, number: u32) -> Map {
         MOST_NODES => most_nodes(number),
         MOST_ARCS => most_arcs(number),
         _ => small(maps::RANDOM, number),
+    }
+}
+
+// 1 if a run is not what its family is for: a removal uses bucket B of a chain's heap, and of the maps whose arcs are all decreases only the
+// first arc to each node is none.
+pub fn shape_fault(family: u32, case: Case, expected: Expected) -> u64 {
+    match family {
+        CHAINS => lists::differ(expected.highest, expected.buckets),
+        ALL_DECREASES => lists::differ(
+            words::sum(expected.decreases, expected.reached),
+            words::sum(case.heads as u64, 1),
+        ),
+        _ => 0,
     }
 }

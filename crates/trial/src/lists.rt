@@ -1,22 +1,40 @@
-// Lists of words: junk that shows what was written and what was not, parts to lend, and comparisons with a table of the reference.
+// Lists of words: junk that shows what was written and what was not, parts to lend, and comparisons with the tables of the reference.
+use reference::map;
+use reference::map::Lists;
 use reference::nodes;
+use reference::nodes::Table;
 use reference::words;
 ghost use Prim.Native.Nat.{_≤_};
 
-pub fn put(list: &mut [u32], place: u32, word: u32) {
-    let i = place as usize;
-    if i < list.len() {
-        list[i] = word;
-    }
-}
+// The kinds of junk.
+pub const DISTANCES: u64 = 1;
 
-// The first words of a list, or all of it if it has no more.
-pub fn prefix(list: &[u32], count: u32) -> &[u32] {
-    let end = count as usize;
-    if end > list.len() {
-        return list;
+pub const PARENTS: u64 = 2;
+
+pub const ROSTER: u64 = 3;
+
+pub const WORK: u64 = 4;
+
+pub const ROUTE: u64 = 5;
+
+pub const STARTS: u64 = 6;
+
+pub const HEADS: u64 = 7;
+
+pub const COSTS: u64 = 8;
+
+// Words of a list from a place on, or fewer if it has no more.
+pub fn part(list: &[u32], first: u64, count: u32) -> &[u32] {
+    let from = first as usize;
+    let most = list.len();
+    if from > most {
+        return &list[..0];
     }
-    &list[..end]
+    if most - from < count as usize {
+        return &list[from..];
+    }
+    let end = from + count as usize;
+    &list[from..end]
 }
 
 // How many words to lend of a list that has `most`.
@@ -64,7 +82,7 @@ pub fn touched(list: &[u32], kind: u64, from: u64) -> u64 {
 }
 
 // The words up to a place that are not 0.
-pub fn uncleared(list: &[u32], end: u64) -> u64 {
+fn uncleared(list: &[u32], end: u64) -> u64 {
     let mut found = 0;
     let mut i = 0;
     while i < end {
@@ -74,18 +92,46 @@ pub fn uncleared(list: &[u32], end: u64) -> u64 {
     found
 }
 
-// The words up to n that are not the numbers of a row of the table.
-pub fn differing(list: &[u32], table: &[u64], row: u64, n: u64) -> u64 {
+// The words up to a place that are not the numbers of a row of the table.
+fn differing(list: &[u32], table: &Table, row: u64, end: u64) -> u64 {
     let mut found = 0;
     let mut i = 0;
-    while i < n {
-        found = words::sum(
-            found,
-            one_if(words::word(list, i) != nodes::get(table, row, i)),
-        );
+    while i < end {
+        let number = nodes::get(table, row, i);
+        found = words::sum(found, differ(words::word(list, i), number));
         i += 1;
     }
     found
+}
+
+// The words up to a place that are not those of a list of the map.
+fn differing_from_map(list: &[u32], lists: &Lists, which: u64, end: u64) -> u64 {
+    let mut found = 0;
+    let mut i = 0;
+    while i < end {
+        let word = map::get(lists, which, i);
+        found = words::sum(found, differ(words::word(list, i), word));
+        i += 1;
+    }
+    found
+}
+
+// The words that are not as they are to be: those up to a place are the numbers of a row, those past it junk of a kind.
+pub fn not_row(list: &[u32], kind: u64, table: &Table, row: u64, end: u64) -> u64 {
+    words::sum(differing(list, table, row, end), touched(list, kind, end))
+}
+
+// The same where those up to a place are words of the map.
+pub fn not_map(list: &[u32], kind: u64, lists: &Lists, which: u64, end: u64) -> u64 {
+    words::sum(
+        differing_from_map(list, lists, which, end),
+        touched(list, kind, end),
+    )
+}
+
+// The same where those up to a place are 0.
+pub fn not_cleared(list: &[u32], kind: u64, end: u64) -> u64 {
+    words::sum(uncleared(list, end), touched(list, kind, end))
 }
 
 // 1 if two numbers differ.

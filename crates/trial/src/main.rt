@@ -1,7 +1,11 @@
 // The planner beside references that share nothing with it (document 01, "Edges"): both runs and routes on generated maps and at the edge
 // of every refusal, and the text for planning files. Each family gives a line: its name, its maps, and the differences found. Then each
 // number that a call returns has a line: the cases in which it is the one to return, and the differences in them.
+use beside::ByNode;
+use reference::map::Lists;
+use reference::nodes::Table;
 use reference::words;
+use tallies::Tallies;
 
 mod beside;
 mod case;
@@ -35,175 +39,53 @@ fn print_family(family: u32, differences: u64) {
 fn try_number(
     family: u32,
     number: u32,
-    starts: &mut [u32],
-    heads: &mut [u32],
-    costs: &mut [u32],
-    distances: &mut [u32],
-    parents: &mut [u32],
-    roster: &mut [u32],
-    work: &mut [u32],
-    searched: &mut [u64],
-    counted: &mut [u64],
-    found: &mut [u64],
+    lists: &mut Lists,
+    parents: &mut ByNode,
+    table: &mut Table,
+    found: &mut Tallies,
 ) -> u64 {
-    if family == families::PLANNING_FILES {
-        return files::try_file(number, starts, heads, costs, searched, counted, found);
+    match family {
+        families::DAMAGED_PARENTS => damaged::try_damaged(number, lists, parents, table),
+        families::RUNS_AT_EDGES => refused::try_edge(number, lists, parents, table, found),
+        families::ROUTES_AT_EDGES => refused::try_route_edge(number, lists, parents, table, found),
+        families::PLANNING_FILES => files::try_file(number, lists, table, found),
+        families::DAMAGED_FILES => files::try_damaged_file(number, lists, table, found),
+        _ => trial_map::try_map(family, number, lists, parents, table),
     }
-    if family == families::DAMAGED_FILES {
-        return files::try_damaged_file(number, starts, heads, costs, searched, counted, found);
-    }
-    if family == families::DAMAGED_PARENTS {
-        return damaged::try_damaged(
-            number,
-            starts,
-            heads,
-            costs,
-            distances,
-            parents,
-            roster,
-            work,
-            searched,
-            counted,
-        );
-    }
-    if family == families::RUNS_AT_EDGES {
-        return refused::try_edge(
-            number,
-            starts,
-            heads,
-            costs,
-            distances,
-            parents,
-            roster,
-            work,
-            searched,
-            counted,
-            found,
-        );
-    }
-    if family == families::ROUTES_AT_EDGES {
-        return refused::try_route_edge(
-            number,
-            starts,
-            heads,
-            costs,
-            distances,
-            parents,
-            roster,
-            work,
-            searched,
-            counted,
-            found,
-        );
-    }
-    let map = families::map_of(family, number);
-    trial_map::try_map(
-        map,
-        number % 9,
-        starts,
-        heads,
-        costs,
-        distances,
-        parents,
-        roster,
-        work,
-        searched,
-        counted,
-    )
 }
 
 fn try_family(
     family: u32,
-    starts: &mut [u32],
-    heads: &mut [u32],
-    costs: &mut [u32],
-    distances: &mut [u32],
-    parents: &mut [u32],
-    roster: &mut [u32],
-    work: &mut [u32],
-    searched: &mut [u64],
-    counted: &mut [u64],
-    found: &mut [u64],
+    lists: &mut Lists,
+    parents: &mut ByNode,
+    table: &mut Table,
+    found: &mut Tallies,
 ) -> u64 {
     let count = families::count(family);
     let mut differences = 0;
     let mut number = 0;
     while number < count {
-        let more = try_number(
-            family,
-            number,
-            starts,
-            heads,
-            costs,
-            distances,
-            parents,
-            roster,
-            work,
-            searched,
-            counted,
-            found,
-        );
+        let more = try_number(family, number, lists, parents, table, found);
         differences = words::sum(differences, more);
         number += 1;
     }
     differences
 }
 
-fn try_families(
-    starts: &mut [u32],
-    heads: &mut [u32],
-    costs: &mut [u32],
-    distances: &mut [u32],
-    parents: &mut [u32],
-    roster: &mut [u32],
-    work: &mut [u32],
-    searched: &mut [u64],
-    counted: &mut [u64],
-    found: &mut [u64],
-) {
+fn try_families(lists: &mut Lists, parents: &mut ByNode, table: &mut Table, found: &mut Tallies) {
     let mut family = 0;
     while family < families::FAMILIES {
-        let differences = try_family(
-            family,
-            starts,
-            heads,
-            costs,
-            distances,
-            parents,
-            roster,
-            work,
-            searched,
-            counted,
-            found,
-        );
+        let differences = try_family(family, lists, parents, table, found);
         print_family(family, differences);
         family += 1;
     }
 }
 
-// Every list has words past the most that a run is lent.
 fn main() {
-    let mut starts = [0u32; 4104];
-    let mut heads = [0u32; 65544];
-    let mut costs = [0u32; 65544];
-    let mut distances = [0u32; 4112];
+    let mut lists = [0u32; 135192];
     let mut parents = [0u32; 4112];
-    let mut roster = [0u32; 4112];
-    let mut work = [0u32; 16784];
-    let mut searched = [0u64; 28672];
-    let mut counted = [0u64; 28672];
+    let mut table = [0u64; 49152];
     let mut found = [0u64; 36];
-    try_families(
-        &mut starts,
-        &mut heads,
-        &mut costs,
-        &mut distances,
-        &mut parents,
-        &mut roster,
-        &mut work,
-        &mut searched,
-        &mut counted,
-        &mut found,
-    );
+    try_families(&mut lists, &mut parents, &mut table, &mut found);
     tallies::print(&found);
 }

@@ -1,6 +1,7 @@
 // The generated maps, each by a rule for how many arcs leave a node, where they lead and what they cost (document 01, "Edges").
-use crate::lists;
 use crate::random;
+use reference::map;
+use reference::map::Lists;
 
 pub const RANDOM: u32 = 0;
 
@@ -96,32 +97,21 @@ fn star_degree(map: Map, v: u32) -> u32 {
 fn grid_head(map: Map, v: u32, slot: u32) -> u32 {
     let width = map.measure;
     let column = rest(v, width);
+    let right = plus(v, 1);
+    let down = plus(v, width);
     match slot {
-        0 => {
-            if plus(column, 1) < width && plus(v, 1) < map.nodes {
-                return plus(v, 1);
-            }
-            v
-        }
-        1 => {
-            if column > 0 {
-                return minus(v, 1);
-            }
-            v
-        }
-        2 => {
-            if plus(v, width) < map.nodes {
-                return plus(v, width);
-            }
-            v
-        }
-        _ => {
-            if v >= width {
-                return minus(v, width);
-            }
-            v
-        }
+        0 => one_of(plus(column, 1) < width && right < map.nodes, right, v),
+        1 => one_of(column > 0, minus(v, 1), v),
+        2 => one_of(down < map.nodes, down, v),
+        _ => one_of(v >= width, minus(v, width), v),
     }
+}
+
+fn one_of(first: bool, a: u32, b: u32) -> u32 {
+    if first {
+        return a;
+    }
+    b
 }
 
 // A node of the same half.
@@ -197,42 +187,39 @@ fn cost(map: Map, slot: u32, word: u64) -> u32 {
     }
 }
 
+fn put(lists: &mut Lists, list: u64, place: u32, word: u32) {
+    map::set(lists, list, place as u64, word as u64);
+}
+
 // The arcs of node v from one number on; where the generator has got to.
-fn fill_node(
-    map: Map,
-    v: u32,
-    first: u32,
-    count: u32,
-    begin: u64,
-    heads: &mut [u32],
-    costs: &mut [u32],
-) -> u64 {
+fn fill_node(map: Map, v: u32, first: u32, count: u32, begin: u64, lists: &mut Lists) -> u64 {
     let mut word = begin;
     let mut slot = 0;
     while slot < count {
+        let arc = plus(first, slot);
         word = random::next(word);
-        lists::put(heads, plus(first, slot), head(map, v, slot, word));
+        put(lists, map::HEADS, arc, head(map, v, slot, word));
         word = random::next(word);
-        lists::put(costs, plus(first, slot), cost(map, slot, word));
+        put(lists, map::COSTS, arc, cost(map, slot, word));
         slot += 1;
     }
     word
 }
 
 // The lists of a map; how many arcs it has.
-pub fn fill(map: Map, starts: &mut [u32], heads: &mut [u32], costs: &mut [u32]) -> u32 {
+pub fn fill(map: Map, lists: &mut Lists) -> u32 {
     let nodes = map.nodes;
     let mut word = map.seed;
     let mut arcs = 0;
     let mut v = 0;
     while v < nodes {
-        lists::put(starts, v, arcs);
+        put(lists, map::STARTS, v, arcs);
         word = random::next(word);
         let count = degree(map, v, word);
-        word = fill_node(map, v, arcs, count, word, heads, costs);
+        word = fill_node(map, v, arcs, count, word, lists);
         arcs = plus(arcs, count);
         v += 1;
     }
-    lists::put(starts, nodes, arcs);
+    put(lists, map::STARTS, nodes, arcs);
     arcs
 }

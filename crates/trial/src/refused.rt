@@ -1,182 +1,66 @@
 // Runs and routes at the edge of every refusal, each counted under the number that the plain checker gives.
 use crate::beside;
+use crate::beside::ByNode;
 use crate::case;
-use crate::case::Case;
 use crate::damaged;
 use crate::edges;
 use crate::families;
-use crate::lists;
 use crate::maps;
 use crate::random;
 use crate::routes_beside;
 use crate::tallies;
-use reference::refusals;
+use crate::tallies::Tallies;
+use reference::case::Case;
+use reference::expected;
+use reference::map::Lists;
+use reference::nodes::Table;
 use reference::words;
 
-// Words of the map at the edges of two refusals.
-fn words_at_edges(
-    case: Case,
-    first: u32,
-    second: u32,
-    word: u64,
-    starts: &mut [u32],
-    heads: &mut [u32],
-    costs: &mut [u32],
-) {
-    edges::words(case, first, word, starts, heads, costs);
-    edges::words(case, second, random::next(word), starts, heads, costs);
-}
-
 // A small map with one or two edges in it.
-fn with_edges(
-    case: Case,
-    number: u32,
-    seed: u64,
-    starts: &mut [u32],
-    heads: &mut [u32],
-    costs: &mut [u32],
-) -> Case {
+fn with_edges(case: Case, number: u32, seed: u64, lists: &mut Lists) -> Case {
     let first = number % 10 + 1;
     let word = random::next(seed);
     let second = random::below(word, 21);
     let third = random::next(word);
-    words_at_edges(case, first, second, third, starts, heads, costs);
-    let changed = edges::numbers(case, first, third);
-    edges::numbers(changed, second, random::next(third))
+    let fourth = random::next(third);
+    edges::words(case, first, third, lists);
+    edges::words(case, second, fourth, lists);
+    edges::numbers(edges::numbers(case, first, third), second, fourth)
 }
 
 // The map of a number and its case.
-fn small_case(number: u32, starts: &mut [u32], heads: &mut [u32], costs: &mut [u32]) -> Case {
+fn small_case(number: u32, lists: &mut Lists) -> Case {
     let map = families::small(maps::RANDOM, std::num::wrapping_add_u32(number, 200000));
-    let arcs = maps::fill(map, starts, heads, costs);
+    let arcs = maps::fill(map, lists);
     case::of_map(map, arcs, number % 9)
-}
-
-// The same with edges in it.
-fn edge_case(number: u32, starts: &mut [u32], heads: &mut [u32], costs: &mut [u32]) -> Case {
-    let case = small_case(number, starts, heads, costs);
-    with_edges(case, number, random::seed(99, number), starts, heads, costs)
-}
-
-// What the run is to return.
-fn run_number(levels: u32, case: Case, starts: &[u32], heads: &[u32], costs: &[u32]) -> u64 {
-    let found = refusals::run_refusal(
-        levels as u64,
-        case.nodes as u64,
-        case.ceiling as u64,
-        case.source as u64,
-        case.segments as u64,
-        lists::prefix(starts, case.starts),
-        lists::prefix(heads, case.heads),
-        lists::prefix(costs, case.costs),
-        case::lent(case),
-    );
-    found.number
 }
 
 fn try_run(
     levels: u32,
     case: Case,
-    starts: &[u32],
-    heads: &[u32],
-    costs: &[u32],
-    distances: &mut [u32],
-    parents: &mut [u32],
-    roster: &mut [u32],
-    work: &mut [u32],
-    searched: &mut [u64],
-    counted: &mut [u64],
-    found: &mut [u64],
+    lists: &Lists,
+    parents: &mut ByNode,
+    table: &mut Table,
+    found: &mut Tallies,
 ) -> u64 {
-    let differences = beside::run(
-        levels,
-        case,
-        starts,
-        heads,
-        costs,
-        distances,
-        parents,
-        roster,
-        work,
-        searched,
-        counted,
-    );
-    let number = run_number(levels, case, starts, heads, costs);
-    tallies::count(found, number, differences)
-}
-
-fn try_runs(
-    case: Case,
-    starts: &[u32],
-    heads: &[u32],
-    costs: &[u32],
-    distances: &mut [u32],
-    parents: &mut [u32],
-    roster: &mut [u32],
-    work: &mut [u32],
-    searched: &mut [u64],
-    counted: &mut [u64],
-    found: &mut [u64],
-) -> u64 {
-    let one = try_run(
-        1,
-        case,
-        starts,
-        heads,
-        costs,
-        distances,
-        parents,
-        roster,
-        work,
-        searched,
-        counted,
-        found,
-    );
-    let two = try_run(
-        2,
-        case,
-        starts,
-        heads,
-        costs,
-        distances,
-        parents,
-        roster,
-        work,
-        searched,
-        counted,
-        found,
-    );
-    words::sum(one, two)
+    let expected = expected::run(levels, case, lists, table);
+    let differences = beside::run(levels, case, expected, lists, parents, table);
+    tallies::count(found, expected.number, differences)
 }
 
 // Both runs of the case of a number.
 pub fn try_edge(
     number: u32,
-    starts: &mut [u32],
-    heads: &mut [u32],
-    costs: &mut [u32],
-    distances: &mut [u32],
-    parents: &mut [u32],
-    roster: &mut [u32],
-    work: &mut [u32],
-    searched: &mut [u64],
-    counted: &mut [u64],
-    found: &mut [u64],
+    lists: &mut Lists,
+    parents: &mut ByNode,
+    table: &mut Table,
+    found: &mut Tallies,
 ) -> u64 {
-    let case = edge_case(number, starts, heads, costs);
-    try_runs(
-        case,
-        starts,
-        heads,
-        costs,
-        distances,
-        parents,
-        roster,
-        work,
-        searched,
-        counted,
-        found,
-    )
+    let small = small_case(number, lists);
+    let case = with_edges(small, number, random::seed(99, number), lists);
+    let one = try_run(1, case, lists, parents, table, found);
+    let two = try_run(2, case, lists, parents, table, found);
+    words::sum(one, two)
 }
 
 // A destination at an edge or any node.
@@ -200,130 +84,57 @@ fn room_of(case: Case, word: u64) -> u32 {
 fn try_route(
     case: Case,
     seed: u64,
-    starts: &[u32],
-    heads: &[u32],
-    parents: &[u32],
-    roster: &mut [u32],
-    table: &mut [u64],
-    found: &mut [u64],
+    lists: &Lists,
+    parents: &ByNode,
+    table: &mut Table,
+    found: &mut Tallies,
 ) -> u64 {
     let destination = destination_of(case, seed);
     let room = room_of(case, random::next(random::next(seed)));
-    let differences = routes_beside::route(
-        case,
-        destination,
-        room,
-        starts,
-        heads,
-        parents,
-        roster,
-        table,
-    );
-    let expected = routes_beside::expected(
-        case,
-        destination,
-        room,
-        starts,
-        heads,
-        parents,
-        4112,
-        table,
-    );
-    tallies::count(found, expected.number, differences)
+    let walked = routes_beside::walk(case, destination, room, lists, table);
+    let differences = routes_beside::route(case, destination, room, walked, lists, parents, table);
+    tallies::count(found, walked.number, differences)
 }
 
 // Every second table of parents is damaged.
-fn damage_half(case: Case, number: u32, seed: u64, parents: &mut [u32], table: &mut [u64]) {
+fn damage_half(case: Case, number: u32, seed: u64, parents: &mut ByNode, table: &mut Table) {
     if number % 2 == 0 {
         damaged::damage_some(case, seed, parents, table);
     }
 }
 
-// The parents of a run on a small map; its case.
-fn run_small(
-    number: u32,
-    starts: &mut [u32],
-    heads: &mut [u32],
-    costs: &mut [u32],
-    distances: &mut [u32],
-    parents: &mut [u32],
-    roster: &mut [u32],
-    work: &mut [u32],
-    searched: &mut [u64],
-    counted: &mut [u64],
-) -> Case {
-    let case = small_case(number, starts, heads, costs);
-    beside::run(
-        1,
-        case,
-        starts,
-        heads,
-        costs,
-        distances,
-        parents,
-        roster,
-        work,
-        searched,
-        counted,
-    );
-    case
+// A third of the cases have their map and numbers as they are.
+fn route_case(case: Case, number: u32, seed: u64, lists: &mut Lists) -> Case {
+    if number % 3 == 0 {
+        return case;
+    }
+    with_edges(case, number, seed, lists)
 }
 
-// The route of the case of a number: a third of them have their map and numbers as they are.
+// The route of the case of a number, where the parents are those of a run on a small map.
 fn walk_edge(
-    case: Case,
+    small: Case,
     number: u32,
-    starts: &mut [u32],
-    heads: &mut [u32],
-    costs: &mut [u32],
-    parents: &mut [u32],
-    roster: &mut [u32],
-    table: &mut [u64],
-    found: &mut [u64],
+    lists: &mut Lists,
+    parents: &mut ByNode,
+    table: &mut Table,
+    found: &mut Tallies,
 ) -> u64 {
     let seed = random::seed(98, number);
-    damage_half(case, number, seed, parents, table);
-    if number % 3 == 0 {
-        return try_route(case, seed, starts, heads, parents, roster, table, found);
-    }
-    let changed = with_edges(case, number, seed, starts, heads, costs);
-    try_route(changed, seed, starts, heads, parents, roster, table, found)
+    damage_half(small, number, seed, parents, table);
+    let case = route_case(small, number, seed, lists);
+    try_route(case, seed, lists, parents, table, found)
 }
 
 pub fn try_route_edge(
     number: u32,
-    starts: &mut [u32],
-    heads: &mut [u32],
-    costs: &mut [u32],
-    distances: &mut [u32],
-    parents: &mut [u32],
-    roster: &mut [u32],
-    work: &mut [u32],
-    searched: &mut [u64],
-    counted: &mut [u64],
-    found: &mut [u64],
+    lists: &mut Lists,
+    parents: &mut ByNode,
+    table: &mut Table,
+    found: &mut Tallies,
 ) -> u64 {
-    let case = run_small(
-        number,
-        starts,
-        heads,
-        costs,
-        distances,
-        parents,
-        roster,
-        work,
-        searched,
-        counted,
-    );
-    walk_edge(
-        case,
-        number,
-        starts,
-        heads,
-        costs,
-        parents,
-        roster,
-        searched,
-        found,
-    )
+    let small = small_case(number, lists);
+    let expected = expected::run(1, small, lists, table);
+    let run = beside::run(1, small, expected, lists, parents, table);
+    words::sum(run, walk_edge(small, number, lists, parents, table, found))
 }

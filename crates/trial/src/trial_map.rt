@@ -1,132 +1,52 @@
 // A generated map: both runs, and routes by the parents of each.
 use crate::beside;
+use crate::beside::ByNode;
 use crate::case;
-use crate::case::Case;
+use crate::families;
 use crate::maps;
-use crate::maps::Map;
 use crate::routes_beside;
+use reference::case::Case;
+use reference::expected;
+use reference::map::Lists;
+use reference::nodes::Table;
 use reference::words;
 
 // Routes to several destinations, and their costs.
-fn walk_routes(
-    case: Case,
-    seed: u64,
-    starts: &[u32],
-    heads: &[u32],
-    costs: &[u32],
-    parents: &[u32],
-    roster: &mut [u32],
-    table: &mut [u64],
-) -> u64 {
-    let routes = routes_beside::several(case, seed, 5, starts, heads, parents, roster, table);
-    let dear = routes_beside::several_costs(case, seed, 5, starts, heads, costs, table);
+fn walk_routes(case: Case, seed: u64, lists: &Lists, parents: &ByNode, table: &mut Table) -> u64 {
+    let routes = routes_beside::several(case, seed, 5, lists, parents, table);
+    let dear = routes_beside::several_costs(case, seed, 5, lists, table);
     words::sum(routes, dear)
 }
 
-// A run, then routes by its parents, for which the roster's list is lent.
+// A run on a map of a family, then routes by its parents.
 fn try_run(
+    family: u32,
     levels: u32,
     seed: u64,
     case: Case,
-    starts: &[u32],
-    heads: &[u32],
-    costs: &[u32],
-    distances: &mut [u32],
-    parents: &mut [u32],
-    roster: &mut [u32],
-    work: &mut [u32],
-    searched: &mut [u64],
-    counted: &mut [u64],
+    lists: &Lists,
+    parents: &mut ByNode,
+    table: &mut Table,
 ) -> u64 {
-    let run = beside::run(
-        levels,
-        case,
-        starts,
-        heads,
-        costs,
-        distances,
-        parents,
-        roster,
-        work,
-        searched,
-        counted,
-    );
-    let routes = walk_routes(case, seed, starts, heads, costs, parents, roster, searched);
-    words::sum(run, routes)
+    let expected = expected::run(levels, case, lists, table);
+    let shape = families::shape_fault(family, case, expected);
+    let run = beside::run(levels, case, expected, lists, parents, table);
+    let routes = walk_routes(case, seed, lists, parents, table);
+    words::sum(shape, words::sum(run, routes))
 }
 
-// Both runs.
-fn try_both(
-    seed: u64,
-    case: Case,
-    starts: &[u32],
-    heads: &[u32],
-    costs: &[u32],
-    distances: &mut [u32],
-    parents: &mut [u32],
-    roster: &mut [u32],
-    work: &mut [u32],
-    searched: &mut [u64],
-    counted: &mut [u64],
-) -> u64 {
-    let one = try_run(
-        1,
-        seed,
-        case,
-        starts,
-        heads,
-        costs,
-        distances,
-        parents,
-        roster,
-        work,
-        searched,
-        counted,
-    );
-    let two = try_run(
-        2,
-        seed,
-        case,
-        starts,
-        heads,
-        costs,
-        distances,
-        parents,
-        roster,
-        work,
-        searched,
-        counted,
-    );
-    words::sum(one, two)
-}
-
-// The lists are filled with the map, then both runs are tried.
+// The lists are filled with the map of a number of a family, then both runs are tried.
 pub fn try_map(
-    map: Map,
-    spare: u32,
-    starts: &mut [u32],
-    heads: &mut [u32],
-    costs: &mut [u32],
-    distances: &mut [u32],
-    parents: &mut [u32],
-    roster: &mut [u32],
-    work: &mut [u32],
-    searched: &mut [u64],
-    counted: &mut [u64],
+    family: u32,
+    number: u32,
+    lists: &mut Lists,
+    parents: &mut ByNode,
+    table: &mut Table,
 ) -> u64 {
-    let arcs = maps::fill(map, starts, heads, costs);
-    let case = case::of_map(map, arcs, spare);
-    try_both(
-        map.seed,
-        case,
-        starts,
-        heads,
-        costs,
-        distances,
-        parents,
-        roster,
-        work,
-        searched,
-        counted,
-    )
+    let map = families::map_of(family, number);
+    let arcs = maps::fill(map, lists);
+    let case = case::of_map(map, arcs, number % 9);
+    let one = try_run(family, 1, map.seed, case, lists, parents, table);
+    let two = try_run(family, 2, map.seed, case, lists, parents, table);
+    words::sum(one, two)
 }

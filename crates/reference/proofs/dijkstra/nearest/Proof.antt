@@ -1,4 +1,4 @@
--- `reference::dijkstra::nearest` meets its contract. The measure: n - v.
+-- `reference::dijkstra::nearest` meets its contract. The measure: the nodes left.
 use Prim.Native.Nat.{_-_}
 use borrow.Author.Needs.{needs}
 use Rattle.reference.proofs.dijkstra.nearest.Statement.{statement}
@@ -17,7 +17,6 @@ nearest-spec =
     Inv-loop
     μ-loop
     (λ c. search needs)
-    (λ c κs. search needs)
     (λ c κs. search needs)
     (λ c κs. search needs)
     (λ c. search needs)

@@ -1,16 +1,14 @@
--- `reference::dijkstra::search` meets its contract. The invariant: the list keeps its length. The measure: n - scanned.
+-- `reference::dijkstra::search` meets its contract. The measure: the nodes left.
 use Prim.Native.Nat.{_-_}
-use lib.ListN.{length}
-use mathlib.Core.Path.{_≡_}
 use borrow.Author.Needs.{needs}
 use Rattle.reference.proofs.dijkstra.search.Statement.{statement}
 use Rattle.reference.proofs.dijkstra.search.Tie as tie
 
 abbrev Inv-loop : tie.InvT-loop
-Inv-loop n source starts heads costs table₀ scanned₀ table scanned = length table ≡ length table₀
+Inv-loop n source lists table₀ scanned₀ table scanned = Unit
 
 abbrev μ-loop : tie.MeasureT-loop
-μ-loop n source starts heads costs table₀ scanned₀ table scanned = n - scanned
+μ-loop n source lists table₀ scanned₀ table scanned = n - scanned
 
 pub search-spec : {M : Type 1} → statement M
 search-spec =
@@ -22,11 +20,9 @@ search-spec =
     (λ c. search needs)
     (λ c κs. search needs)
     (λ c. search needs)
-    (λ c. search needs)
     (λ c κs. search needs)
     (λ c κs. search needs)
     (λ c κs. search needs)
-    (λ c. search needs)
     (λ c. search needs)
     (λ c. search needs)
     (λ c. search needs)

@@ -1,14 +1,14 @@
--- `reference::expected::differing` meets its contract. The measure: count - v.
+-- `reference::expected::differing` meets its contract. The measure: the places left.
 use Prim.Native.Nat.{_-_}
 use borrow.Author.Needs.{needs}
 use Rattle.reference.proofs.expected.differing.Statement.{statement}
 use Rattle.reference.proofs.expected.differing.Tie as tie
 
 abbrev Inv-loop : tie.InvT-loop
-Inv-loop searched counted row count found₀ v₀ found v = Unit
+Inv-loop table row other count found₀ v₀ found v = Unit
 
 abbrev μ-loop : tie.MeasureT-loop
-μ-loop searched counted row count found₀ v₀ found v = count - v
+μ-loop table row other count found₀ v₀ found v = count - v
 
 pub differing-spec : {M : Type 1} → statement M
 differing-spec =

@@ -1,13 +1,13 @@
--- `reference::heap::bucket_of` meets its contract. The measure: i.
+-- `reference::heap::bucket_of` meets its contract. The measure: the bounds left.
 use borrow.Author.Needs.{needs}
 use Rattle.reference.proofs.heap.bucket_of.Statement.{statement}
 use Rattle.reference.proofs.heap.bucket_of.Tie as tie
 
 abbrev Inv-loop : tie.InvT-loop
-Inv-loop bounds start key i₀ i = Unit
+Inv-loop table start key i₀ i = Unit
 
 abbrev μ-loop : tie.MeasureT-loop
-μ-loop bounds start key i₀ i = i
+μ-loop table start key i₀ i = i
 
 pub bucket-of-spec : {M : Type 1} → statement M
 bucket-of-spec =

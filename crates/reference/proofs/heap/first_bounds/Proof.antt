@@ -1,14 +1,14 @@
--- `reference::heap::first_bounds` meets its contract. The measure: last - i.
+-- `reference::heap::first_bounds` meets its contract. The measure: the bounds left.
 use Prim.Native.Nat.{_-_}
 use borrow.Author.Needs.{needs}
 use Rattle.reference.proofs.heap.first_bounds.Statement.{statement}
 use Rattle.reference.proofs.heap.first_bounds.Tie as tie
 
 abbrev Inv-loop : tie.InvT-loop
-Inv-loop heap bounds₀ last i₀ bounds i = Unit
+Inv-loop heap table₀ last i₀ table i = Unit
 
 abbrev μ-loop : tie.MeasureT-loop
-μ-loop heap bounds₀ last i₀ bounds i = last - i
+μ-loop heap table₀ last i₀ table i = last - i
 
 pub first-bounds-spec : {M : Type 1} → statement M
 first-bounds-spec =

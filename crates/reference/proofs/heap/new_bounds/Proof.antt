@@ -1,14 +1,14 @@
--- `reference::heap::new_bounds` meets its contract. The measure: j - i.
+-- `reference::heap::new_bounds` meets its contract. The measure: the bounds left.
 use Prim.Native.Nat.{_-_}
 use borrow.Author.Needs.{needs}
 use Rattle.reference.proofs.heap.new_bounds.Statement.{statement}
 use Rattle.reference.proofs.heap.new_bounds.Tie as tie
 
 abbrev Inv-loop : tie.InvT-loop
-Inv-loop heap bounds₀ j d t i₀ bounds i = Unit
+Inv-loop heap table₀ j d t i₀ table i = Unit
 
 abbrev μ-loop : tie.MeasureT-loop
-μ-loop heap bounds₀ j d t i₀ bounds i = j - i
+μ-loop heap table₀ j d t i₀ table i = j - i
 
 pub new-bounds-spec : {M : Type 1} → statement M
 new-bounds-spec =

@@ -1,16 +1,14 @@
--- `reference::planfile::begin` meets its contract. The invariant: the list keeps its length. The measure: tail - v.
+-- `reference::planfile::begin` meets its contract. The measure: the nodes left.
 use Prim.Native.Nat.{_-_}
-use lib.ListN.{length}
-use mathlib.Core.Path.{_≡_}
 use borrow.Author.Needs.{needs}
 use Rattle.reference.proofs.planfile.begin.Statement.{statement}
 use Rattle.reference.proofs.planfile.begin.Tie as tie
 
 abbrev Inv-loop : tie.InvT-loop
-Inv-loop starts₀ after tail arc v₀ starts v = length starts ≡ length starts₀
+Inv-loop lists₀ after tail arc v₀ lists v = Unit
 
 abbrev μ-loop : tie.MeasureT-loop
-μ-loop starts₀ after tail arc v₀ starts v = tail - v
+μ-loop lists₀ after tail arc v₀ lists v = tail - v
 
 pub begin-spec : {M : Type 1} → statement M
 begin-spec =
@@ -21,7 +19,6 @@ begin-spec =
     (λ c. search needs)
     (λ c. search needs)
     (λ c κs. search needs)
-    (λ c. search needs)
     (λ c. search needs)
     (λ c. search needs)
     (λ c. search needs))

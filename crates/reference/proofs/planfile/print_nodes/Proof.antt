@@ -1,13 +1,11 @@
--- `reference::planfile::print_nodes` meets its contract. The invariant: the list keeps its length. The measure: n - v.
+-- `reference::planfile::print_nodes` meets its contract. The measure: the nodes left.
 use Prim.Native.Nat.{_-_}
-use lib.ListN.{length}
-use mathlib.Core.Path.{_≡_}
 use borrow.Author.Needs.{needs}
 use Rattle.reference.proofs.planfile.print_nodes.Statement.{statement}
 use Rattle.reference.proofs.planfile.print_nodes.Tie as tie
 
 abbrev Inv-loop : tie.InvT-loop
-Inv-loop output₀ from n table at₀ v₀ output at v = length output ≡ length output₀
+Inv-loop output₀ from n table at₀ v₀ output at v = Unit
 
 abbrev μ-loop : tie.MeasureT-loop
 μ-loop output₀ from n table at₀ v₀ output at v = n - v
@@ -20,12 +18,6 @@ print-nodes-spec =
     μ-loop
     (λ c. search needs)
     (λ c κs. search needs)
-    (λ c κs. search needs)
-    (λ c κs. search needs)
-    (λ c κs. search needs)
-    (λ c κs. search needs)
-    (λ c κs. search needs)
-    (λ c. search needs)
     (λ c. search needs)
     (λ c. search needs)
     (λ c. search needs)

@@ -1,16 +1,14 @@
--- `reference::planfile::read_arcs` meets its contract. The invariant: the lists keep their lengths. The measure: m - arc.
+-- `reference::planfile::read_arcs` meets its contract. The measure: the lines left.
 use Prim.Native.Nat.{_-_}
-use lib.ListN.{length}
-use mathlib.Core.Path.{_≡_}
 use borrow.Author.Needs.{needs}
 use Rattle.reference.proofs.planfile.read_arcs.Statement.{statement}
 use Rattle.reference.proofs.planfile.read_arcs.Tie as tie
 
 abbrev Inv-loop : tie.InvT-loop
-Inv-loop bytes from m header starts₀ heads₀ costs₀ last₀ arc₀ starts heads costs last arc = (length starts ≡ length starts₀) × (length heads ≡ length heads₀) × (length costs ≡ length costs₀)
+Inv-loop bytes from header lists₀ m last₀ arc₀ lists last arc = Unit
 
 abbrev μ-loop : tie.MeasureT-loop
-μ-loop bytes from m header starts₀ heads₀ costs₀ last₀ arc₀ starts heads costs last arc = m - arc
+μ-loop bytes from header lists₀ m last₀ arc₀ lists last arc = m - arc
 
 pub read-arcs-spec : {M : Type 1} → statement M
 read-arcs-spec =
@@ -18,14 +16,9 @@ read-arcs-spec =
     (tie.spec
     Inv-loop
     μ-loop
-    (λ c. search needs)
     (λ c κs. search needs)
     (λ c. search needs)
-    (λ c. search needs)
-    (λ c. search needs)
-    (λ c. search needs)
-    (λ c. search needs)
-    (λ c. search needs)
+    (λ c κs. search needs)
     (λ c. search needs)
     (λ c. search needs)
     (λ c. search needs)

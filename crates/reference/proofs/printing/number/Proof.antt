@@ -1,12 +1,10 @@
--- `reference::printing::number` meets its contract. The invariant: the list keeps its length. The measure: left.
-use lib.ListN.{length}
-use mathlib.Core.Path.{_≡_}
+-- `reference::printing::number` meets its contract. The measure: the digits left.
 use borrow.Author.Needs.{needs}
 use Rattle.reference.proofs.printing.number.Statement.{statement}
 use Rattle.reference.proofs.printing.number.Tie as tie
 
 abbrev Inv-loop : tie.InvT-loop
-Inv-loop output₀ at written left₀ place₀ output left place = length output ≡ length output₀
+Inv-loop output₀ at written left₀ place₀ output left place = Unit
 
 abbrev μ-loop : tie.MeasureT-loop
 μ-loop output₀ at written left₀ place₀ output left place = left
@@ -24,7 +22,6 @@ number-spec =
     (λ c κs. search needs)
     (λ c κs. search needs)
     (λ c κs. search needs)
-    (λ c. search needs)
     (λ c. search needs)
     (λ c. search needs)
     (λ c. search needs))

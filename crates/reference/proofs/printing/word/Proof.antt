@@ -1,13 +1,11 @@
--- `reference::printing::word` meets its contract. The invariant: the list keeps its length. The measure: count - i.
+-- `reference::printing::word` meets its contract. The measure: the letters left.
 use Prim.Native.Nat.{_-_}
-use lib.ListN.{length}
-use mathlib.Core.Path.{_≡_}
 use borrow.Author.Needs.{needs}
 use Rattle.reference.proofs.printing.word.Statement.{statement}
 use Rattle.reference.proofs.printing.word.Tie as tie
 
 abbrev Inv-loop : tie.InvT-loop
-Inv-loop output₀ at letters count place₀ i₀ output place i = length output ≡ length output₀
+Inv-loop output₀ at letters count place₀ i₀ output place i = Unit
 
 abbrev μ-loop : tie.MeasureT-loop
 μ-loop output₀ at letters count place₀ i₀ output place i = count - i
@@ -22,8 +20,6 @@ word-spec =
     (λ c. search needs)
     (λ c κs. search needs)
     (λ c κs. search needs)
-    (λ c. search needs)
-    (λ c. search needs)
     (λ c. search needs)
     (λ c. search needs)
     (λ c. search needs)

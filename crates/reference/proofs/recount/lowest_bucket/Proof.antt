@@ -1,4 +1,4 @@
--- `reference::recount::lowest_bucket` meets its contract. The measure: n - v.
+-- `reference::recount::lowest_bucket` meets its contract. The measure: the nodes left.
 use Prim.Native.Nat.{_-_}
 use borrow.Author.Needs.{needs}
 use Rattle.reference.proofs.recount.lowest_bucket.Statement.{statement}

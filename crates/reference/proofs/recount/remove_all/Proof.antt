@@ -1,16 +1,14 @@
--- `reference::recount::remove_all` meets its contract. The invariant: the list keeps its length. The measure: n - scanned.
+-- `reference::recount::remove_all` meets its contract. The measure: the nodes left.
 use Prim.Native.Nat.{_-_}
-use lib.ListN.{length}
-use mathlib.Core.Path.{_≡_}
 use borrow.Author.Needs.{needs}
 use Rattle.reference.proofs.recount.remove_all.Statement.{statement}
 use Rattle.reference.proofs.recount.remove_all.Tie as tie
 
 abbrev Inv-loop : tie.InvT-loop
-Inv-loop heap n starts heads costs bounds₀ table₀ counts₀ scanned₀ bounds table counts scanned = length table ≡ length table₀
+Inv-loop heap n lists table₀ scanned₀ table scanned = Unit
 
 abbrev μ-loop : tie.MeasureT-loop
-μ-loop heap n starts heads costs bounds₀ table₀ counts₀ scanned₀ bounds table counts scanned = n - scanned
+μ-loop heap n lists table₀ scanned₀ table scanned = n - scanned
 
 pub remove-all-spec : {M : Type 1} → statement M
 remove-all-spec =
@@ -21,10 +19,8 @@ remove-all-spec =
     (λ c. search needs)
     (λ c κs. search needs)
     (λ c. search needs)
-    (λ c. search needs)
     (λ c κs. search needs)
     (λ c κs. search needs)
-    (λ c. search needs)
     (λ c. search needs)
     (λ c. search needs)
     (λ c. search needs)

@@ -1,16 +1,14 @@
--- `reference::recount::scan` meets its contract. The invariant: the list keeps its length. The measure: end - arc.
+-- `reference::recount::scan` meets its contract. The measure: the arcs left.
 use Prim.Native.Nat.{_-_}
-use lib.ListN.{length}
-use mathlib.Core.Path.{_≡_}
 use borrow.Author.Needs.{needs}
 use Rattle.reference.proofs.recount.scan.Statement.{statement}
 use Rattle.reference.proofs.recount.scan.Tie as tie
 
 abbrev Inv-loop : tie.InvT-loop
-Inv-loop heap bounds starts heads costs table₀ counts₀ v end arc₀ table counts arc = length table ≡ length table₀
+Inv-loop heap lists table₀ v end arc₀ table arc = Unit
 
 abbrev μ-loop : tie.MeasureT-loop
-μ-loop heap bounds starts heads costs table₀ counts₀ v end arc₀ table counts arc = end - arc
+μ-loop heap lists table₀ v end arc₀ table arc = end - arc
 
 pub scan-spec : {M : Type 1} → statement M
 scan-spec =
@@ -23,7 +21,10 @@ scan-spec =
     (λ c κs. search needs)
     (λ c. search needs)
     (λ c κs. search needs)
-    (λ c. search needs)
+    (λ c κs. search needs)
+    (λ c κs. search needs)
+    (λ c κs. search needs)
+    (λ c κs. search needs)
     (λ c. search needs)
     (λ c. search needs)
     (λ c. search needs)

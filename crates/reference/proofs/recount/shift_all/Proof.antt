@@ -1,16 +1,14 @@
--- `reference::recount::shift_all` meets its contract. The invariant: the list keeps its length. The measure: n - v.
+-- `reference::recount::shift_all` meets its contract. The measure: the nodes left.
 use Prim.Native.Nat.{_-_}
-use lib.ListN.{length}
-use mathlib.Core.Path.{_≡_}
 use borrow.Author.Needs.{needs}
 use Rattle.reference.proofs.recount.shift_all.Statement.{statement}
 use Rattle.reference.proofs.recount.shift_all.Tie as tie
 
 abbrev Inv-loop : tie.InvT-loop
-Inv-loop heap n bounds table₀ counts₀ j k v₀ table counts v = length table ≡ length table₀
+Inv-loop heap n table₀ j k v₀ table v = Unit
 
 abbrev μ-loop : tie.MeasureT-loop
-μ-loop heap n bounds table₀ counts₀ j k v₀ table counts v = n - v
+μ-loop heap n table₀ j k v₀ table v = n - v
 
 pub shift-all-spec : {M : Type 1} → statement M
 shift-all-spec =
@@ -20,7 +18,6 @@ shift-all-spec =
     μ-loop
     (λ c. search needs)
     (λ c κs. search needs)
-    (λ c. search needs)
     (λ c. search needs)
     (λ c. search needs)
     (λ c. search needs)

@@ -1,14 +1,14 @@
--- `reference::recount::smallest` meets its contract. The measure: n - v.
+-- `reference::recount::smallest` meets its contract. The measure: the nodes left.
 use Prim.Native.Nat.{_-_}
 use borrow.Author.Needs.{needs}
 use Rattle.reference.proofs.recount.smallest.Statement.{statement}
 use Rattle.reference.proofs.recount.smallest.Tie as tie
 
 abbrev Inv-loop : tie.InvT-loop
-Inv-loop heap n bounds table j k best₀ v₀ best v = Unit
+Inv-loop heap n table j k best₀ v₀ best v = Unit
 
 abbrev μ-loop : tie.MeasureT-loop
-μ-loop heap n bounds table j k best₀ v₀ best v = n - v
+μ-loop heap n table j k best₀ v₀ best v = n - v
 
 pub smallest-spec : {M : Type 1} → statement M
 smallest-spec =

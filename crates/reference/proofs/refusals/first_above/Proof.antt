@@ -1,15 +1,14 @@
--- `reference::refusals::first_above` meets its contract. The measure: length list - i.
+-- `reference::refusals::first_above` meets its contract. The measure: the words left.
 use Prim.Native.Nat.{_-_}
-use lib.ListN.{length}
 use borrow.Author.Needs.{needs}
 use Rattle.reference.proofs.refusals.first_above.Statement.{statement}
 use Rattle.reference.proofs.refusals.first_above.Tie as tie
 
 abbrev Inv-loop : tie.InvT-loop
-Inv-loop list most i₀ i = Unit
+Inv-loop lists list count most i₀ i = Unit
 
 abbrev μ-loop : tie.MeasureT-loop
-μ-loop list most i₀ i = length list - i
+μ-loop lists list count most i₀ i = count - i
 
 pub first-above-spec : {M : Type 1} → statement M
 first-above-spec =

@@ -1,14 +1,14 @@
--- `reference::walk::cost` meets its contract. The measure: nodes-of-route - i.
+-- `reference::walk::cost` meets its contract. The measure: the nodes left.
 use Prim.Native.Nat.{_-_}
 use borrow.Author.Needs.{needs}
 use Rattle.reference.proofs.walk.cost.Statement.{statement}
 use Rattle.reference.proofs.walk.cost.Tie as tie
 
 abbrev Inv-loop : tie.InvT-loop
-Inv-loop nodes-of-route costs table total₀ i₀ total i = Unit
+Inv-loop nodes-of-route lists table total₀ i₀ total i = Unit
 
 abbrev μ-loop : tie.MeasureT-loop
-μ-loop nodes-of-route costs table total₀ i₀ total i = nodes-of-route - i
+μ-loop nodes-of-route lists table total₀ i₀ total i = nodes-of-route - i
 
 pub cost-spec : {M : Type 1} → statement M
 cost-spec =

@@ -1,14 +1,14 @@
--- `reference::walk::tail` meets its contract. The measure: n - v.
+-- `reference::walk::tail` meets its contract. The measure: the nodes left.
 use Prim.Native.Nat.{_-_}
 use borrow.Author.Needs.{needs}
 use Rattle.reference.proofs.walk.tail.Statement.{statement}
 use Rattle.reference.proofs.walk.tail.Tie as tie
 
 abbrev Inv-loop : tie.InvT-loop
-Inv-loop n starts arc v₀ v = Unit
+Inv-loop n lists arc v₀ v = Unit
 
 abbrev μ-loop : tie.MeasureT-loop
-μ-loop n starts arc v₀ v = n - v
+μ-loop n lists arc v₀ v = n - v
 
 pub tail-spec : {M : Type 1} → statement M
 tail-spec =
@@ -17,8 +17,6 @@ tail-spec =
     Inv-loop
     μ-loop
     (λ c. search needs)
-    (λ c κs. search needs)
-    (λ c κs. search needs)
     (λ c κs. search needs)
     (λ c. search needs)
     (λ c. search needs)

@@ -1,16 +1,14 @@
--- `reference::walk::walk_back` meets its contract. The invariant: the list keeps its length. The measure: n - walked.
+-- `reference::walk::walk_back` meets its contract. The measure: the nodes left.
 use Prim.Native.Nat.{_-_}
-use lib.ListN.{length}
-use mathlib.Core.Path.{_≡_}
 use borrow.Author.Needs.{needs}
 use Rattle.reference.proofs.walk.walk_back.Statement.{statement}
 use Rattle.reference.proofs.walk.walk_back.Tie as tie
 
 abbrev Inv-loop : tie.InvT-loop
-Inv-loop n source starts heads table₀ destination v₀ walked₀ table v walked = length table ≡ length table₀
+Inv-loop lists table₀ destination n m source v₀ walked₀ table v walked = Unit
 
 abbrev μ-loop : tie.MeasureT-loop
-μ-loop n source starts heads table₀ destination v₀ walked₀ table v walked = n - walked
+μ-loop lists table₀ destination n m source v₀ walked₀ table v walked = n - walked
 
 pub walk-back-spec : {M : Type 1} → statement M
 walk-back-spec =
@@ -19,13 +17,13 @@ walk-back-spec =
     Inv-loop
     μ-loop
     (λ c. search needs)
-    (λ c κs. search needs)
     (λ c. search needs)
     (λ c. search needs)
     (λ c. search needs)
     (λ c κs. search needs)
     (λ c. search needs)
     (λ c. search needs)
+    (λ c κs. search needs)
     (λ c. search needs)
     (λ c. search needs)
     (λ c. search needs)

@@ -1,13 +1,11 @@
--- `trial::damage::append` meets its contract. The invariant: the list keeps its length. The measure: end - i.
+-- `trial::damage::append` meets its contract. The measure: the bytes left.
 use Prim.Native.Nat.{_-_}
-use lib.ListN.{length}
-use mathlib.Core.Path.{_≡_}
 use borrow.Author.Needs.{needs}
 use Rattle.trial.proofs.damage.append.Statement.{statement}
 use Rattle.trial.proofs.damage.append.Tie as tie
 
 abbrev Inv-loop : tie.InvT-loop
-Inv-loop bytes from end copy₀ at place₀ i₀ copy place i = length copy ≡ length copy₀
+Inv-loop bytes from end copy₀ at place₀ i₀ copy place i = Unit
 
 abbrev μ-loop : tie.MeasureT-loop
 μ-loop bytes from end copy₀ at place₀ i₀ copy place i = end - i
@@ -21,7 +19,6 @@ append-spec =
     (λ c. search needs)
     (λ c κs. search needs)
     (λ c κs. search needs)
-    (λ c. search needs)
     (λ c. search needs)
     (λ c. search needs)
     (λ c. search needs)

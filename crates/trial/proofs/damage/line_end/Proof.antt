@@ -1,4 +1,4 @@
--- `trial::damage::line_end` meets its contract. The measure: length - at.
+-- `trial::damage::line_end` meets its contract. The measure: the bytes left.
 use Prim.Native.Nat.{_-_}
 use lib.ListN.{length}
 use borrow.Author.Needs.{needs}

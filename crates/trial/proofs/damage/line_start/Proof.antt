@@ -1,4 +1,4 @@
--- `trial::damage::line_start` meets its contract. The measure: at.
+-- `trial::damage::line_start` meets its contract. The measure: the bytes before the place.
 use borrow.Author.Needs.{needs}
 use Rattle.trial.proofs.damage.line_start.Statement.{statement}
 use Rattle.trial.proofs.damage.line_start.Tie as tie

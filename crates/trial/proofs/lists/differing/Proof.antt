@@ -1,14 +1,14 @@
--- `trial::lists::differing` meets its contract. The measure: n - i.
+-- `trial::lists::differing` meets its contract. The measure: the words left.
 use Prim.Native.Nat.{_-_}
 use borrow.Author.Needs.{needs}
 use Rattle.trial.proofs.lists.differing.Statement.{statement}
 use Rattle.trial.proofs.lists.differing.Tie as tie
 
 abbrev Inv-loop : tie.InvT-loop
-Inv-loop list table row n found₀ i₀ found i = Unit
+Inv-loop list table row end found₀ i₀ found i = Unit
 
 abbrev μ-loop : tie.MeasureT-loop
-μ-loop list table row n found₀ i₀ found i = n - i
+μ-loop list table row end found₀ i₀ found i = end - i
 
 pub differing-spec : {M : Type 1} → statement M
 differing-spec =

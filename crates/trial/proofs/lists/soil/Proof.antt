@@ -1,7 +1,7 @@
--- `trial::lists::soil` meets its contract. The invariant: the list keeps its length. The measure: length list₀ - i.
+-- `trial::lists::soil` meets its contract. The invariant: the list keeps its length. The measure: the words left.
+use mathlib.Core.Path.{_≡_}
 use Prim.Native.Nat.{_-_}
 use lib.ListN.{length}
-use mathlib.Core.Path.{_≡_}
 use borrow.Author.Needs.{needs}
 use Rattle.trial.proofs.lists.soil.Statement.{statement}
 use Rattle.trial.proofs.lists.soil.Tie as tie

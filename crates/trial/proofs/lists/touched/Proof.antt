@@ -1,4 +1,4 @@
--- `trial::lists::touched` meets its contract. The measure: length list - i.
+-- `trial::lists::touched` meets its contract. The measure: the words left.
 use Prim.Native.Nat.{_-_}
 use lib.ListN.{length}
 use borrow.Author.Needs.{needs}

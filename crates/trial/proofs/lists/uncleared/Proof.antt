@@ -1,4 +1,4 @@
--- `trial::lists::uncleared` meets its contract. The measure: end - i.
+-- `trial::lists::uncleared` meets its contract. The measure: the words left.
 use Prim.Native.Nat.{_-_}
 use borrow.Author.Needs.{needs}
 use Rattle.trial.proofs.lists.uncleared.Statement.{statement}

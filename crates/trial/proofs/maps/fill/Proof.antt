@@ -1,16 +1,14 @@
--- `trial::maps::fill` meets its contract. The invariant: the lists keep their lengths. The measure: nodes - v.
+-- `trial::maps::fill` meets its contract. The measure: the nodes left.
 use Prim.Native.Nat.{_-_}
-use lib.ListN.{length}
-use mathlib.Core.Path.{_≡_}
 use borrow.Author.Needs.{needs}
 use Rattle.trial.proofs.maps.fill.Statement.{statement}
 use Rattle.trial.proofs.maps.fill.Tie as tie
 
 abbrev Inv-loop : tie.InvT-loop
-Inv-loop map starts₀ heads₀ costs₀ nodes word₀ arcs₀ v₀ starts heads costs word arcs v = (length starts ≡ length starts₀) × (length heads ≡ length heads₀) × (length costs ≡ length costs₀)
+Inv-loop map lists₀ nodes word₀ arcs₀ v₀ lists word arcs v = Unit
 
 abbrev μ-loop : tie.MeasureT-loop
-μ-loop map starts₀ heads₀ costs₀ nodes word₀ arcs₀ v₀ starts heads costs word arcs v = nodes - v
+μ-loop map lists₀ nodes word₀ arcs₀ v₀ lists word arcs v = nodes - v
 
 pub fill-spec : {M : Type 1} → statement M
 fill-spec =
@@ -28,7 +26,4 @@ fill-spec =
     (λ c. search needs)
     (λ c. search needs)
     (λ c κs. search needs)
-    (λ c. search needs)
-    (λ c. search needs)
-    (λ c. search needs)
     (λ c. search needs))

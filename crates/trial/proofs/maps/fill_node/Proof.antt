@@ -1,16 +1,14 @@
--- `trial::maps::fill_node` meets its contract. The invariant: the lists keep their lengths. The measure: count - slot.
+-- `trial::maps::fill_node` meets its contract. The measure: the arcs left.
 use Prim.Native.Nat.{_-_}
-use lib.ListN.{length}
-use mathlib.Core.Path.{_≡_}
 use borrow.Author.Needs.{needs}
 use Rattle.trial.proofs.maps.fill_node.Statement.{statement}
 use Rattle.trial.proofs.maps.fill_node.Tie as tie
 
 abbrev Inv-loop : tie.InvT-loop
-Inv-loop map v first count begin heads₀ costs₀ word₀ slot₀ heads costs word slot = (length heads ≡ length heads₀) × (length costs ≡ length costs₀)
+Inv-loop map v first count begin lists₀ word₀ slot₀ lists word slot = Unit
 
 abbrev μ-loop : tie.MeasureT-loop
-μ-loop map v first count begin heads₀ costs₀ word₀ slot₀ heads costs word slot = count - slot
+μ-loop map v first count begin lists₀ word₀ slot₀ lists word slot = count - slot
 
 pub fill-node-spec : {M : Type 1} → statement M
 fill-node-spec =
@@ -26,9 +24,6 @@ fill-node-spec =
     (λ c κs. search needs)
     (λ c κs. search needs)
     (λ c κs. search needs)
-    (λ c κs. search needs)
-    (λ c. search needs)
-    (λ c. search needs)
     (λ c. search needs)
     (λ c. search needs)
     (λ c. search needs)

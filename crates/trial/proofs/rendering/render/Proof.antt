@@ -1,16 +1,14 @@
--- `trial::rendering::render` meets its contract. The invariant: the list keeps its length. The measure: n - v.
+-- `trial::rendering::render` meets its contract. The measure: the nodes left.
 use Prim.Native.Nat.{_-_}
-use lib.ListN.{length}
-use mathlib.Core.Path.{_≡_}
 use borrow.Author.Needs.{needs}
 use Rattle.trial.proofs.rendering.render.Statement.{statement}
 use Rattle.trial.proofs.rendering.render.Tie as tie
 
 abbrev Inv-loop : tie.InvT-loop
-Inv-loop n starts heads costs bytes₀ at₀ v₀ bytes at v = length bytes ≡ length bytes₀
+Inv-loop n lists bytes₀ at₀ v₀ bytes at v = Unit
 
 abbrev μ-loop : tie.MeasureT-loop
-μ-loop n starts heads costs bytes₀ at₀ v₀ bytes at v = n - v
+μ-loop n lists bytes₀ at₀ v₀ bytes at v = n - v
 
 pub render-spec : {M : Type 1} → statement M
 render-spec =
@@ -21,10 +19,6 @@ render-spec =
     (λ c κs. search needs)
     (λ c. search needs)
     (λ c κs. search needs)
-    (λ c κs. search needs)
-    (λ c κs. search needs)
-    (λ c κs. search needs)
-    (λ c. search needs)
     (λ c. search needs)
     (λ c. search needs)
     (λ c. search needs)

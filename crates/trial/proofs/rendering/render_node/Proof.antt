@@ -1,16 +1,14 @@
--- `trial::rendering::render_node` meets its contract. The invariant: the list keeps its length. The measure: end - arc.
+-- `trial::rendering::render_node` meets its contract. The measure: the arcs left.
 use Prim.Native.Nat.{_-_}
-use lib.ListN.{length}
-use mathlib.Core.Path.{_≡_}
 use borrow.Author.Needs.{needs}
 use Rattle.trial.proofs.rendering.render_node.Statement.{statement}
 use Rattle.trial.proofs.rendering.render_node.Tie as tie
 
 abbrev Inv-loop : tie.InvT-loop
-Inv-loop bytes₀ from v first end heads costs at₀ arc₀ bytes at arc = length bytes ≡ length bytes₀
+Inv-loop bytes₀ from v lists end at₀ arc₀ bytes at arc = Unit
 
 abbrev μ-loop : tie.MeasureT-loop
-μ-loop bytes₀ from v first end heads costs at₀ arc₀ bytes at arc = end - arc
+μ-loop bytes₀ from v lists end at₀ arc₀ bytes at arc = end - arc
 
 pub render-node-spec : {M : Type 1} → statement M
 render-node-spec =
@@ -18,11 +16,13 @@ render-node-spec =
     (tie.spec
     Inv-loop
     μ-loop
-    (λ c. search needs)
     (λ c κs. search needs)
     (λ c κs. search needs)
     (λ c κs. search needs)
     (λ c. search needs)
+    (λ c κs. search needs)
+    (λ c κs. search needs)
+    (λ c κs. search needs)
     (λ c. search needs)
     (λ c. search needs)
     (λ c. search needs)

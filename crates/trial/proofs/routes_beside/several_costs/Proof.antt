@@ -1,16 +1,14 @@
--- `trial::routes_beside::several_costs` meets its contract. The invariant: the list keeps its length. The measure: count - number.
+-- `trial::routes_beside::several_costs` meets its contract. The measure: the routes left.
 use Prim.Native.Nat.{_-_}
-use lib.ListN.{length}
-use mathlib.Core.Path.{_≡_}
 use borrow.Author.Needs.{needs}
 use Rattle.trial.proofs.routes_beside.several_costs.Statement.{statement}
 use Rattle.trial.proofs.routes_beside.several_costs.Tie as tie
 
 abbrev Inv-loop : tie.InvT-loop
-Inv-loop case seed count starts heads costs table₀ word₀ found₀ number₀ table word found number = length table ≡ length table₀
+Inv-loop case seed count lists table₀ word₀ found₀ number₀ table word found number = Unit
 
 abbrev μ-loop : tie.MeasureT-loop
-μ-loop case seed count starts heads costs table₀ word₀ found₀ number₀ table word found number = count - number
+μ-loop case seed count lists table₀ word₀ found₀ number₀ table word found number = count - number
 
 pub several-costs-spec : {M : Type 1} → statement M
 several-costs-spec =
@@ -24,7 +22,6 @@ several-costs-spec =
     (λ c κs. search needs)
     (λ c κs. search needs)
     (λ c κs. search needs)
-    (λ c. search needs)
     (λ c. search needs)
     (λ c. search needs)
     (λ c. search needs)

@@ -1,4 +1,4 @@
--- `trial::tallies::print` meets its contract. The measure: 18 - number.
+-- `trial::tallies::print` meets its contract. The measure: the lines left.
 use Prim.Native.Nat.{_-_}
 use borrow.Author.Needs.{needs}
 use Rattle.trial.proofs.tallies.print.Statement.{statement}
@@ -17,6 +17,9 @@ print-spec =
     Inv-loop
     μ-loop
     (λ c. search needs)
+    (λ c κs. search needs)
+    (λ c. search needs)
+    (λ c κs. search needs)
     (λ c κs. search needs)
     (λ c. search needs)
     (λ c. search needs)

@@ -1,22 +1,21 @@
--- `trial::routes_beside::differing_words` meets its contract. The measure: count - i.
+-- `trial::routes_beside::differing_nodes` meets its contract. The measure: the words left.
 use Prim.Native.Nat.{_-_}
 use borrow.Author.Needs.{needs}
-use Rattle.trial.proofs.routes_beside.differing_words.Statement.{statement}
-use Rattle.trial.proofs.routes_beside.differing_words.Tie as tie
+use Rattle.trial.proofs.routes_beside.differing_nodes.Statement.{statement}
+use Rattle.trial.proofs.routes_beside.differing_nodes.Tie as tie
 
 abbrev Inv-loop : tie.InvT-loop
-Inv-loop route table count found₀ i₀ found i = Unit
+Inv-loop list table count found₀ i₀ found i = Unit
 
 abbrev μ-loop : tie.MeasureT-loop
-μ-loop route table count found₀ i₀ found i = count - i
+μ-loop list table count found₀ i₀ found i = count - i
 
-pub differing-words-spec : {M : Type 1} → statement M
-differing-words-spec =
+pub differing-nodes-spec : {M : Type 1} → statement M
+differing-nodes-spec =
     tie.close
     (tie.spec
     Inv-loop
     μ-loop
-    (λ c κs. search needs)
     (λ c. search needs)
     (λ c κs. search needs)
     (λ c κs. search needs)

@@ -1,0 +1,44 @@
+// The three lists of a map in one: starts, heads and costs, each with words past the most that a run is lent.
+use crate::words;
+
+pub type Lists = [u32; 135192];
+
+// Where each list begins.
+pub const STARTS: u64 = 0;
+
+pub const HEADS: u64 = 4104;
+
+pub const COSTS: u64 = 69648;
+
+fn wide(word: u32) -> u64 {
+    word as u64
+}
+
+// The word of a list at a place.
+pub fn get(lists: &Lists, list: u64, place: u64) -> u64 {
+    let i = words::sum(list, place) as usize;
+    if i < 135192 {
+        return wide(lists[i]);
+    }
+    0
+}
+
+pub fn set(lists: &mut Lists, list: u64, place: u64, number: u64) {
+    let i = words::sum(list, place) as usize;
+    if i < 135192 {
+        lists[i] = (number % 4294967296) as u32;
+    }
+}
+
+// The first arc of node v; of the node after the last, the number past all arcs.
+pub fn start(lists: &Lists, v: u64) -> u64 {
+    get(lists, STARTS, v)
+}
+
+pub fn head(lists: &Lists, arc: u64) -> u64 {
+    get(lists, HEADS, arc)
+}
+
+pub fn cost(lists: &Lists, arc: u64) -> u64 {
+    get(lists, COSTS, arc)
+}

@@ -1,0 +1,45 @@
+-- `trial::beside::two_level` meets its contract: each part lent is at most its list.
+use mathlib.Core.Path.{sym}
+use native.Mathlib.Omega.{arith}
+use lib.Seq.{length-take-le}
+use borrow.Author.Needs.{needs}
+use Rattle.trial.proofs.beside.two_level.Statement.{statement}
+use Rattle.trial.proofs.beside.two_level.Tie as tie
+
+slice-aggregate-two-level : tie.Need-slice-aggregate-two-level
+slice-aggregate-two-level c = sym (length-take-le _ _ (omega arith))
+
+slice-aggregate-two-level-2 : tie.Need-slice-aggregate-two-level-2
+slice-aggregate-two-level-2 c = sym (length-take-le _ _ (omega arith))
+
+slice-aggregate-two-level-3 : tie.Need-slice-aggregate-two-level-3
+slice-aggregate-two-level-3 c = sym (length-take-le _ _ (omega arith))
+
+slice-aggregate-two-level-4 : tie.Need-slice-aggregate-two-level-4
+slice-aggregate-two-level-4 c = sym (length-take-le _ _ (omega arith))
+
+pub two-level-spec : {M : Type 1} → statement M
+two-level-spec =
+    tie.close
+    (tie.spec
+    (λ c κs. search needs)
+    (λ c κs. search needs)
+    (λ c κs. search needs)
+    (λ c κs. search needs)
+    (λ c κs. search needs)
+    (λ c κs. search needs)
+    (λ c κs. search needs)
+    (λ c. search needs)
+    slice-aggregate-two-level
+    (λ c. search needs)
+    slice-aggregate-two-level-2
+    (λ c. search needs)
+    slice-aggregate-two-level-3
+    (λ c. search needs)
+    slice-aggregate-two-level-4
+    (λ c κs. search needs)
+    (λ c. search needs)
+    (λ c. search needs)
+    (λ c. search needs)
+    (λ c. search needs)
+    (λ c. search needs))
