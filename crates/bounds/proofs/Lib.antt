@@ -5,5 +5,6 @@ pub mod Words
 pub mod First
 pub mod Bucket
 pub mod Segments
+pub mod Inside
 mod Logarithm
 pub mod Agreement

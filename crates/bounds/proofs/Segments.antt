@@ -1,9 +1,10 @@
 -- The segment of a key and the upper end of a segment, by whether the bucket has more than one (document 01, "Two-level heap").
-use Prim.Native.Nat.{ℕ, _-_, _*_, _/_, _≤_, _<_}
+use Prim.Native.Nat.{ℕ, _+_, _-_, _*_, _/_, _≤_, _<_}
 use native.Mathlib.Omega.{arith}
-use mathlib.Core.Path.{_≡_}
+use mathlib.Core.Path.{_≡_, ap, _∙_}
 use mathlib.Core.Bool.{Bool, true, false, cond, _&&_}
 use mathlib.Core.List.{List}
+use lib.Arith.{digits-div}
 use lib.Dec.{ltb}
 use borrow.Author.Tests.{ltb-true}
 use Rattle.bounds.specs.Words.{sizeOf, segmented, segmentNumber, segmentEnd}
@@ -40,3 +41,22 @@ module _ (B K : ℕ) (sizes : List ℕ) (i u : ℕ) where
   pub end-whole : (k : ℕ) → segmented B K i ≡ false → segmentEnd B K sizes i u k ≡ u
   unfolding segmentEnd
   end-whole k e = rw e
+
+  -- No segment ends above its bucket.
+  pub end-most : (k : ℕ) → segmentEnd B K sizes i u k ≤ u
+  unfolding segmentEnd
+  end-most k = go (segmented B K i)
+    where
+      go : (t : Bool) → cond t (u - (K - k) * sizeOf sizes (i - 1)) u ≤ u
+      go true = omega arith
+      go false = omega arith
+
+  -- A key below the end of a segment, by less than a segment's width, is in it.
+  pub number-near : (x k : ℕ) → segmented B K i ≡ true → k ≤ K → x < segmentEnd B K sizes i u k → segmentEnd B K sizes i u k - x < sizeOf sizes (i - 1)
+      → segmentNumber B K sizes i u x ≡ k
+  number-near x k s most under near =
+      let w : ℕ = sizeOf sizes (i - 1) in
+      let e = end-inside k s in
+      let d : u - x ≡ (K - k) * w + (u - (K - k) * w - x) = omega (arith, e) in
+      let q : ((K - k) * w + (u - (K - k) * w - x)) / w ≡ K - k = digits-div (K - k) (omega (arith, e)) in
+      number-inside x s ∙ ap (λ (t : ℕ). K - t / w) d ∙ ap (λ (t : ℕ). K - t) q ∙ omega arith

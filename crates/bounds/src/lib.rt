@@ -4,11 +4,12 @@
 //     sizes[i]            the size of bucket i, for 1 ≤ i < B, and 1 at i = 0: a segment of bucket i is sizes[i - 1] keys wide
 // The one-level heap has one segment to a bucket.
 ghost use mathlib.Core.Path.{_≡_};
+ghost use mathlib.Core.Bool.{_&&_};
 ghost use Prim.Native.Nat.{_+_, _*_, _≤_, _<_, min};
-ghost use lib.ListN.{length};
+ghost use lib.ListN.{length, getD};
 ghost use Rattle.theory.specs.Shape.{ceilLog, oneLevelBuckets, twoLevelBuckets};
 ghost use Rattle.theory.specs.Heap.{bucketFrom};
-ghost use Rattle.bounds.specs.Words.{boundsOf, reboundWords, firstWords, segmented, segmentNumber, segmentEnd, Sized};
+ghost use Rattle.bounds.specs.Words.{boundsOf, reboundWords, firstWords, segmented, segmentNumber, segmentEnd, inBucket, inSegment, Sized};
 ghost use Rattle.bounds.specs.Sizes.{oneLevelSizes, twoLevelSizes};
 
 // The bucket of a key, searched for from bucket `start` down.
@@ -26,8 +27,8 @@ pub fn bucket_of(words: &[u32], n: usize, key: u32, start: usize) -> usize
     1
 }
 
-// u(from), .., u(to - 1) are set anew: each is the one before and the bucket's size, but no more than `end`. That is found out by a
-// difference, since the sum may not fit.
+// u(from), .., u(to - 1) are set anew: each is the one before and the bucket's size, but no more than `end`. So each is `before` and the
+// sizes from bucket `from` on, but no more than `end`: the sum of the sizes does not wait for the comparison.
 pub fn set_bounds(
     words: &mut [u32],
     n: usize,
@@ -39,25 +40,26 @@ pub fn set_bounds(
 )
     requires { ⌜ 4 * n + to ≤ length (now words) ⌝ }
     requires { ⌜ to ≤ length (now sizes) ⌝ }
+    requires { ⌜ to ≤ 32 ⌝ }
     requires { ⌜ before ≤ end ⌝ }
     ensures { λ _. ⌜ now (words .exit) ≡ reboundWords n (now (sizes .entry)) end before from to (now (words .entry)) ⌝ }
 {
-    let mut bound = before;
+    let mut offset = 0;
     let mut i = from;
     while i < to {
-        bound = raised(bound, sizes[i], end);
-        words[4 * n + i] = bound;
+        offset += sizes[i] as u64;
+        words[4 * n + i] = raised(before, offset, end);
         i += 1;
     }
 }
 
-// The smaller of `bound` + `size` and `end`.
-fn raised(bound: u32, size: u32, end: u32) -> u32
+// The smaller of `bound` + `offset` and `end`, found out by a difference, since the sum may not fit.
+fn raised(bound: u32, offset: u64, end: u32) -> u32
     requires { ⌜ bound ≤ end ⌝ }
-    ensures { λ r. ⌜ r ≡ min (bound + size) end ⌝ }
+    ensures { λ r. ⌜ r ≡ min (bound + offset) end ⌝ }
 {
-    if size < end - bound {
-        bound + size
+    if offset < (end - bound) as u64 {
+        bound + offset as u32
     } else {
         end
     }
@@ -70,7 +72,7 @@ pub fn first_bounds(words: &mut [u32], n: usize, sizes: &[u32], buckets: usize, 
     requires { ⌜ Sized buckets (now sizes) ⌝ }
     ensures { λ _. ⌜ now (words .exit) ≡ firstWords n (now (sizes .entry)) buckets top (now (words .entry)) ⌝ }
 {
-    let first = raised(0, sizes[1] - 1, top);
+    let first = raised(0, (sizes[1] - 1) as u64, top);
     words[4 * n + 1] = first;
     set_bounds(words, n, sizes, top, first, 2, buckets);
     words[4 * n + buckets] = top;
@@ -125,6 +127,45 @@ pub fn segment_end(
     } else {
         bound
     }
+}
+
+// Whether a key that is no higher than the bound of a bucket is above the bound of the one below.
+fn is_in_bucket(words: &[u32], n: usize, bucket: usize, key: u32) -> bool
+    requires { ⌜ 4 * n + bucket < length (now words) ⌝ }
+    requires { ⌜ 1 ≤ bucket ⌝ }
+    ensures { λ r. ⌜ r ≡ inBucket n (now (words .entry)) bucket key ⌝ }
+{
+    if bucket == 1 {
+        return true;
+    }
+    words[4 * n + (bucket - 1)] < key
+}
+
+// Whether a key below the upper end of a segment is in that segment. This takes no search and no division.
+pub fn is_inside(
+    words: &[u32],
+    n: usize,
+    sizes: &[u32],
+    segments: usize,
+    buckets: usize,
+    bucket: usize,
+    segment: usize,
+    key: u32,
+) -> bool
+    requires { ⌜ Sized buckets (now sizes) ⌝ }
+    requires { ⌜ (1 ≤ bucket) × (4 * n + bucket < length (now words)) ⌝ }
+    requires { ⌜ (segment ≤ segments) × (key < segmentEnd buckets segments (now sizes) bucket (getD (now words) (4 * n + bucket) 0) segment) ⌝ }
+    ensures { λ r. ⌜ r ≡ (inBucket n (now (words .entry)) bucket key && inSegment buckets segments (now (sizes .entry)) (now (words .entry)) n bucket segment key) ⌝ }
+{
+    if is_in_bucket(words, n, bucket, key) {
+        if is_segmented(segments, buckets, bucket) {
+            let bound = words[4 * n + bucket];
+            let end = segment_end(sizes, segments, buckets, bucket, bound, segment);
+            return end - key < sizes[bucket - 1];
+        }
+        return true;
+    }
+    false
 }
 
 // The least exponent whose power of `base` is above `ceiling`, for both heaps. The next power is formed only

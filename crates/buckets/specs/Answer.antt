@@ -1,4 +1,4 @@
--- What `first`, `least` and `is_empty` say of a slot and of a bucket. Assumes nothing.
+-- What `first`, `take_first`, `least` and `is_empty` say of a slot and of a bucket. Assumes nothing.
 use mathlib.Core.Path.{_≡_}
 use mathlib.Core.Logic.{_⊎_}
 use mathlib.Core.Bool.{Bool, true, false}
@@ -6,6 +6,7 @@ use mathlib.Core.List.{List}
 use Prim.Native.Nat.{ℕ, _≤_, _<_}
 use lib.ListN.{getD}
 use Rattle.buckets.specs.Words.{placeWord, placeBucket, places}
+use Rattle.buckets.specs.Links.{Moved}
 use Rattle.buckets.specs.declared.Found.{Found}
 use Rattle.buckets.specs.declared.Found.the-variants.{At, Nothing}
 
@@ -30,6 +31,11 @@ None P = (u : ℕ) → P u → ⊥
 abbrev pub FirstOf : ℕ → ℕ → ℕ → List ℕ → Found → Type 0
 FirstOf n segments slot words (At v) = InSlot n segments slot words (v .0)
 FirstOf n segments slot words Nothing = None (InSlot n segments slot words)
+
+-- what was found is a node of the slot, which has left it, and nothing only if there is none
+abbrev pub FirstTaken : ℕ → ℕ → ℕ → ℕ → List ℕ → List ℕ → Found → Type 0
+FirstTaken n slots segments slot words words′ (At v) = InSlot n segments slot words (v .0) × Moved n slots segments words words′ (v .0) 0
+FirstTaken n slots segments slot words words′ Nothing = None (InSlot n segments slot words) × (words′ ≡ words)
 
 -- the test says whether a bucket has no node
 abbrev pub EmptyBucket : ℕ → ℕ → List ℕ → Bool → Type 0

@@ -6,7 +6,7 @@ use mathlib.Core.Path.{_≡_}
 use mathlib.Core.Logic.{_⊎_}
 use mathlib.Core.Bool.{cond}
 use mathlib.Core.List.{List}
-use Prim.Native.Nat.{ℕ, _+_, _*_, _-_, _/_, _%_, _≤_, _<_}
+use Prim.Native.Nat.{ℕ, zero, suc, _+_, _*_, _-_, _/_, _%_, _≤_, _<_}
 use lib.Dec.{ltb}
 use lib.ListN.{length, getD, set, take, drop}
 
@@ -39,6 +39,13 @@ Free place = place < 512
 -- a place word that is the one of some slot
 abbrev pub Named : ℕ → ℕ → ℕ → Type 0
 Named slots segments place = (placeSlot place < slots) × (place ≡ placeWord segments (placeSlot place))
+
+-- ---- next and head words
+
+-- the node that a next or head word points to, or v where it points to none
+abbrev pub nodeOr : ℕ → ℕ → ℕ
+nodeOr zero v = v
+nodeOr (suc u) v = u
 
 -- ---- the layout
 

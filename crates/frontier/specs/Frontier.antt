@@ -8,6 +8,9 @@ use lib.ListN.{length, getD, set}
 use Rattle.bits.specs.Sets.{BitSet, In}
 use Rattle.buckets.specs.Words.{places}
 use Rattle.buckets.specs.Links.{Linked}
+use Rattle.buckets.specs.Answer.{InSlot, None}
+use Rattle.buckets.specs.declared.Found.{Found}
+use Rattle.buckets.specs.declared.Found.the-variants.{At, Nothing}
 
 -- The lists and the bits are in order, and the bits are the nodes with place word 1: the labelled nodes at the key that was scanned
 -- last (document 01, "The search": of smallest number among equals).
@@ -38,3 +41,9 @@ pub record FirstCurrent (n slots segments : ℕ) (w w′ : List ℕ) (v : ℕ) :
   pub was : getD (places n w) v 0 ≡ 1
   pub least : (u : ℕ) → u < n → getD (places n w) u 0 ≡ 1 → v ≤ u
   pub placed : Placed n slots segments w w′ v 2
+
+-- What was found is a node of the slot, which is unlabelled in the words then, and nothing only if there is none (document 01, "Two-level
+-- heap").
+abbrev pub FirstLeft : (n slots segments slot : ℕ) → (w w′ : List ℕ) → Found → Type 0
+FirstLeft n slots segments slot w w′ (At v) = InSlot n segments slot w (v .0) × Placed n slots segments w w′ (v .0) 0
+FirstLeft n slots segments slot w w′ Nothing = None (InSlot n segments slot w) × (w′ ≡ w)

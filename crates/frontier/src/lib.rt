@@ -6,12 +6,13 @@
 //     words[4n + 24 .. 4n + 28) the summary of the bits
 //     words[4n + 32 .. )        the lists' heads and counts
 // Callers keep `Frontier` shut and go by the place words.
+use buckets::Found;
 use model::Node;
 ghost use mathlib.Core.Path.{_≡_};
 ghost use Prim.Native.Nat.{_<_, _≤_};
 ghost use lib.ListN.{getD};
 ghost use Rattle.buckets.specs.Words.{places, placeWord, bucketOf};
-ghost use Rattle.frontier.specs.Frontier.{Frontier, Placed, Current, FirstCurrent};
+ghost use Rattle.frontier.specs.Frontier.{Frontier, Placed, Current, FirstCurrent, FirstLeft};
 
 // v, which is unlabelled, is put among the nodes at the current key.
 pub fn enter_current(words: &mut [u32], n: usize, slots: usize, segments: usize, v: Node)
@@ -72,4 +73,20 @@ pub fn scan_slot(words: &mut [u32], n: usize, slots: usize, segments: usize, v: 
     buckets::take(words, n, slots, segments, v);
     let at = v.0 as usize;
     words[2 * n + at] = 2;
+}
+
+// The first node of a bucket's slot leaves it, as unlabelled, or there is none.
+pub fn take_first(
+    words: &mut [u32],
+    n: usize,
+    slots: usize,
+    segments: usize,
+    bucket: usize,
+    slot: usize,
+) -> Found
+    requires { ⌜ Frontier n slots segments (now words) ⌝ }
+    requires { ⌜ (slot < slots) × (bucket ≡ bucketOf segments slot) ⌝ }
+    ensures { λ r. ⌜ FirstLeft n slots segments slot (now (words .entry)) (now (words .exit)) r ⌝ }
+{
+    buckets::take_first(words, n, slots, segments, bucket, slot)
 }

@@ -2,20 +2,24 @@
 use Prim.Native.Nat.{ℕ, _+_, _-_, _*_, _/_, _≤_, _<_}
 use native.Mathlib.Omega.{arith}
 use mathlib.Core.Path.{_≡_, refl, sym, _∙_, ap}
-use mathlib.Core.Logic.{_≢_}
+use mathlib.Core.Logic.{_≢_, inl, inr}
 use mathlib.Core.List.{List}
 use lib.ListN.{length, getD, set}
-use lib.Seq.{getD-drop}
+use lib.Seq.{getD-drop, set-getD}
 use borrow.Author.Tests.{ne-eqb, ltb-true}
 use Rattle.theory.specs.Sums.{sumBelow}
 use Rattle.theory.specs.Shape.{Shape}
 use Rattle.theory.specs.Search.{Mark, unlabelled, labelled, scanned, mark, below, inserted, decreased}
 use Rattle.theory.specs.Heap.{Heap, bound, bucketOf, keyOf, segmentOf, searchStart, heapLabel}
-use Rattle.theory.proofs.Cases.{mark-cases}
+use Rattle.theory.proofs.Cases.{mark-cases, split}
 use Rattle.theory.proofs.Sums.{sum-mono, sum-ones}
+use Rattle.theory.proofs.Heap.Laws.{Lawful}
+use Rattle.theory.proofs.Heap.Bounds.{Bounds}
+use Rattle.theory.proofs.Heap.Buckets.{Fits, late-range}
 use Rattle.bounds.specs.Words.{boundsOf}
+use Rattle.bounds.proofs.Segments.{number-whole}
 use Rattle.buckets.specs.Words.{places}
-use Rattle.frontier.specs.Frontier.{Placed}
+use Rattle.frontier.specs.Frontier.{Frontier, Placed}
 use Rattle.frontier.specs.Frontier.Laws.{placed-again, placed-here, place-read}
 use Rattle.state.specs.declared.Layout.{Layout}
 use Rattle.state.specs.declared.State.{State}
@@ -24,9 +28,20 @@ use Rattle.state.specs.Slots.{slotWord, keyWord, SlotFits, Enters}
 use Rattle.state.specs.Stands.{Setting, Lists, Stands}
 use Rattle.state.proofs.Places.Label.{place-is}
 use Rattle.state.proofs.Slots.{word-far, slot-bucket, slot-below, key-fits}
-use Rattle.state.proofs.Find.{isWord-low}
+use Rattle.state.proofs.Find.{isWord-low, isWord-other}
 use Rattle.state.proofs.Label.{bound-word, Counting, label-enters, label-stands}
-use Rattle.placing.specs.Placing.{Formed, Entering, Entered, lists, Labels}
+use Rattle.placing.specs.Placing.{Formed, Entering, Entered, Standing, lists, Labels}
+
+-- A key that fits its bucket is at most the end of its segment.
+key-end : {sh : Shape} {C S last : ℕ} {u : List ℕ} → Lawful sh C S → Bounds sh last u → {b x : ℕ} → Fits sh u b x → last ≤ x → x ≤ sh .end b (bound u b) (sh .segment b (bound u b) x)
+key-end {sh} {u = u} law bounds {b} {x} fit late = elim (split b (sh .buckets)) [
+  | inl h ↦ law .inside b (bound u b) x (fit .low) h (fit .under) (late-range bounds fit late h)
+  | inr h ↦ omega (arith, law .end-last b (bound u b) (sh .segment b (bound u b) x) h, fit .under)
+]
+
+-- Words that stay as they are: each node has the place word that it had.
+placed-same : {n slots K : ℕ} {w : List ℕ} → Frontier n slots K w → (v : ℕ) → Placed n slots K w w v (getD (places n w) v 0)
+placed-same {n} {w = w} F v = record { frontier = F; place = sym (set-getD (places n w) v 0); same-length = refl; bounds = λ i h. refl }
 
 pub formed : {layout : Layout} {sizes : List ℕ} → Setting layout sizes → Formed layout sizes
 formed X = record { sized = X .agrees .sized; slots = X .slots }
@@ -128,6 +143,48 @@ module _ {layout : Layout} {sizes : List ℕ} {X : Setting layout sizes} {before
         reached = q;
         insertions = i ∙ (rw on);
         decreases = d ∙ (rw on (omega arith));
+        shifts = t;
+        looks = k;
+      })
+
+  -- A labelled node stands in its slot, and its key falls below the end of its segment.
+  pub standing : place ≢ 0 → Standing layout sizes (l .words) place x
+  standing e =
+      let on = held e in
+      let less : x < keyOf h v = ltb-true x (keyOf h v) (rw on at (L .labelling .less)) in
+      let fit = L .inv .fits v on in
+      let f : SlotFits B K (bucketOf h v) (segmentOf sh h v) = key-fits (X .lawful) (X .agrees) (L .inv .bounds) fit (omega (arith, L .late)) in
+      let b = bucketOf h v in
+      let u = bound (h .bounds) b in
+      record {
+        formed = formed X;
+        long = words-long;
+        few = T .frontier .linked .fits .few;
+        bucket = b;
+        segment = segmentOf sh h v;
+        fits = f;
+        whole = λ t. X .agrees .segment b u (keyOf h v) ∙ number-whole B K sizes b u (keyOf h v) t;
+        word = held-word on;
+        below = rw (T .bounds b (f .first) (f .last))
+            (omega (arith, less, key-end (X .lawful) (L .inv .bounds) fit (omega (arith, L .late)), X .agrees .end b u (segmentOf sh h v)));
+      }
+
+  -- A labelled node whose place word is still that of its key: the words stay as they are.
+  pub stays-stands : place ≢ 0 → keyWord B K sizes (boundsOf n (l .words)) (s .front) x (place / 512) ≡ place → {s′ : State} (a : ℕ)
+      → s′ .front ≡ s .front → s′ .current ≡ s .current → s′ .reached ≡ s .reached → s′ .tally .insertions ≡ s .tally .insertions
+      → s′ .tally .decreases ≡ s .tally .decreases + 1 → s′ .tally .shifts ≡ s .tally .shifts → s′ .tally .looks ≡ s .tally .looks
+      → Stands layout sh before (heapLabel sh v x a h) (lists (l .words) (set (l .distances) v x) (set (l .parents) v a) (l .roster)) s′
+  stays-stands e stays {s′} a f c q i d t k =
+      let on = held e in
+      let st : searchStart sh (mark (h .search) v) (bucketOf h v) ≡ place / 512 = start-held on ∙ sym (held-bucket e) in
+      let P : Placed n (layout .slots) K (l .words) (l .words) v place = placed-same (T .frontier) v in
+      label-stands X T (L .inv) (L .labelling) (L .late) (boundsOf n (l .words)) (bound-word T) (rw (st, stays) P) a
+      (record {
+        front = f;
+        current = omega (arith, c, ap (isWord 1) (ap (keyWord B K sizes (boundsOf n (l .words)) (s .front) x) st ∙ stays), isWord-other 1 place (λ z. omega (arith, held-far e)));
+        reached = q;
+        insertions = i ∙ (rw on (omega arith));
+        decreases = d ∙ (rw on);
         shifts = t;
         looks = k;
       })

@@ -1,3 +1,4 @@
 pub mod Entering
 pub mod Labelling
 pub mod Relaxation
+pub mod Staying

@@ -1,6 +1,7 @@
 -- What placements need of the words, and what they leave.
 use Prim.Native.Nat.{ℕ, _+_, _-_, _*_, _≤_, _<_}
 use mathlib.Core.Path.{_≡_}
+use mathlib.Core.Bool.{false}
 use mathlib.Core.List.{List, _∷_, List·Memᴰ}
 use lib.ListN.{length, getD}
 use Rattle.theory.specs.Network.{Link}
@@ -8,13 +9,13 @@ use Rattle.theory.specs.Heap.{Heap}
 use Rattle.theory.proofs.Heap.Invariant.{HeapInv}
 use Rattle.theory.proofs.Heap.Label.{Labelling}
 use Rattle.theory.proofs.Heap.Run.{Relaxing}
-use Rattle.bounds.specs.Words.{boundsOf, Sized}
+use Rattle.bounds.specs.Words.{boundsOf, segmented, segmentEnd, Sized}
 use Rattle.buckets.specs.Words.{places}
 use Rattle.frontier.specs.Frontier.{Frontier, Placed}
 use Rattle.state.specs.declared.Layout.{Layout}
 use Rattle.state.specs.declared.State.{State}
 use Rattle.state.specs.Places.{isWord}
-use Rattle.state.specs.Slots.{keyWord, Enters}
+use Rattle.state.specs.Slots.{slotWord, keyWord, SlotFits, Enters}
 use Rattle.state.specs.Stands.{Setting, Lists, Stands}
 
 -- A layout whose numbers are those of a heap with these sizes (document 01, "Two-level heap").
@@ -34,6 +35,19 @@ pub record Entering (layout : Layout) (sizes words : List ℕ) (front v key star
 pub record Entered (layout : Layout) (sizes words words′ : List ℕ) (front v key start r : ℕ) : Type 0 where
   pub placed : Placed (layout .nodes) (layout .slots) (layout .segments) words words′ v (keyWord (layout .buckets) (layout .segments) sizes (boundsOf (layout .nodes) words) front key start)
   pub counted : r ≡ isWord 1 (keyWord (layout .buckets) (layout .segments) sizes (boundsOf (layout .nodes) words) front key start)
+
+-- A node stands in a segment of a bucket, as its place word says, and a key is below the segment's upper end (document 01, "Two-level
+-- heap").
+pub record Standing (layout : Layout) (sizes words : List ℕ) (place key : ℕ) : Type 0 where
+  pub formed : Formed layout sizes
+  pub long : 4 * layout .nodes + 32 ≤ length words
+  pub few : layout .slots < 512
+  pub bucket : ℕ
+  pub segment : ℕ
+  pub fits : SlotFits (layout .buckets) (layout .segments) bucket segment
+  pub whole : segmented (layout .buckets) (layout .segments) bucket ≡ false → segment ≡ 1
+  pub word : place ≡ slotWord (layout .segments) bucket segment
+  pub below : key < segmentEnd (layout .buckets) (layout .segments) sizes bucket (getD words (4 * layout .nodes + bucket) 0) segment
 
 -- The lists of a run from their parts (document 01, "What the planner holds and leaves out").
 abbrev pub lists : (words distances parents roster : List ℕ) → Lists

@@ -4,14 +4,17 @@ use model::Node;
 use state::Layout;
 use state::State;
 ghost use mathlib.Core.Path.{_≡_};
+ghost use mathlib.Core.Bool.{true};
 ghost use mathlib.Core.List.{List, _∷_};
-ghost use Prim.Native.Nat.{ℕ, _+_};
+ghost use Prim.Native.Nat.{ℕ, _+_, _/_};
 ghost use lib.ListN.{getD};
+ghost use Rattle.bounds.specs.Words.{boundsOf};
 ghost use Rattle.buckets.specs.Words.{places};
 ghost use Rattle.theory.specs.Network.{Link};
 ghost use Rattle.theory.specs.Heap.{Heap, heapLabel, heapRelax};
+ghost use Rattle.state.specs.Slots.{keyWord};
 ghost use Rattle.state.specs.Stands.{Setting, Stands};
-ghost use Rattle.placing.specs.Placing.{Entering, Entered, lists, link, Labels, SomeLabels, Relaxes, SomeRelaxes};
+ghost use Rattle.placing.specs.Placing.{Entering, Entered, Standing, lists, link, Labels, SomeLabels, Relaxes, SomeRelaxes};
 
 // Node v, unlabelled in the words, is put where its key belongs, searched for from bucket `start` down; 1 if that is at the current key.
 pub fn enter(
@@ -39,6 +42,30 @@ pub fn enter(
     let slot = (bucket - 1) * segments + (segment - 1);
     frontier::enter_slot(words, n, slots, segments, v, bucket, slot);
     0
+}
+
+// Whether a key, below that of a node in a list, has the same place word: the node then stays where it is, and nothing is moved.
+fn stays(words: &[u32], sizes: &[u32], layout: Layout, front: u32, place: u32, key: u32) -> bool
+    requires { ⌜ Standing layout (now sizes) (now words) place key ⌝ }
+    ensures { λ r. ⌜ (r ≡ true → keyWord (layout .buckets) (layout .segments) (now (sizes .entry)) (boundsOf (layout .nodes) (now (words .entry))) front key (place / 512) ≡ place) ⌝ }
+{
+    if front == key {
+        return false;
+    }
+    let segments = layout.segments;
+    let bucket = (place / 512) as usize;
+    let slot = (place % 512) as usize - 1;
+    let segment = slot - (bucket - 1) * segments + 1;
+    bounds::is_inside(
+        words,
+        layout.nodes,
+        sizes,
+        segments,
+        layout.buckets,
+        bucket,
+        segment,
+        key,
+    )
 }
 
 // The distance of v falls to `sum`, by this arc: v is inserted or decreased.
@@ -73,21 +100,23 @@ pub fn label(
             tally: state.tally.inserted(),
         };
     }
+    let tally = state.tally.decreased();
+    if stays(words, sizes, layout, state.front, place, sum) {
+        return State {
+            front: state.front,
+            current: state.current,
+            reached: state.reached,
+            tally,
+        };
+    }
     frontier::leave_slot(words, n, layout.slots, layout.segments, v);
-    let current = enter(
-        words,
-        sizes,
-        layout,
-        state.front,
-        v,
-        sum,
-        (place / 512) as usize,
-    );
+    let start = (place / 512) as usize;
+    let current = enter(words, sizes, layout, state.front, v, sum, start);
     State {
         front: state.front,
         current: state.current + current,
         reached: state.reached,
-        tally: state.tally.decreased(),
+        tally,
     }
 }
 

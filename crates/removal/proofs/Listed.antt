@@ -27,7 +27,7 @@ use Rattle.state.specs.declared.State.{State}
 use Rattle.state.specs.Places.{isWord}
 use Rattle.state.specs.Slots.{slotOf, slotWord, keyWord, SlotFits, Enters}
 use Rattle.state.specs.Stands.{Setting, Lists, Stands}
-use Rattle.state.proofs.Slots.{word-far, slot-below}
+use Rattle.state.proofs.Slots.{word-far, slot-bucket, slot-below}
 use Rattle.state.proofs.Find.{isWord-same, isWord-other, node, listed-word, later, key-word}
 use Rattle.state.proofs.Remove.{Removing, listed-min, listed-fit, listed-seg, moved-enters, moved-apart, listed-shifts, listed-stands}
 use Rattle.placing.specs.Placing.{Formed, lists}
@@ -200,6 +200,7 @@ module _ {layout : Layout} {sizes : List ℕ} {X : Setting layout sizes} {before
           formed = formed;
           frontier = renewed-frontier .0;
           below = slot-in g;
+          within = sym (slot-bucket (g .slot));
           long = distances-long;
           enters = λ w lo e. let q = left w e in
               rw (front-is, key-of w lo)

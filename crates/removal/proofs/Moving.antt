@@ -1,7 +1,7 @@
 -- A node of the segment that is used is moved; and all of them, one after the other.
 use Prim.Native.Nat.{ℕ, suc, _+_, _-_, _*_, _≤_, _<_}
 use native.Mathlib.Omega.{arith}
-use mathlib.Core.Path.{_≡_, refl, sym, _∙_, ap}
+use mathlib.Core.Path.{_≡_, refl, sym, _∙_, ap, subst}
 use mathlib.Core.Bool.{Bool, true, false, cond}
 use mathlib.Core.Logic.{_≢_, _⊎_, inl, inr, ⊎-elim}
 use mathlib.Core.List.{List}
@@ -14,7 +14,11 @@ use Rattle.theory.proofs.Cases.{same?}
 use Rattle.theory.proofs.Sums.{sum-change, sum-mono, sum-ones, sum-zero}
 use Rattle.bounds.specs.Words.{boundsOf}
 use Rattle.buckets.specs.Words.{places, placeWord}
-use Rattle.frontier.specs.Frontier.{Frontier, Placed}
+use Rattle.buckets.specs.Answer.{InSlot, None}
+use Rattle.buckets.specs.declared.Found.{Found}
+use Rattle.buckets.specs.declared.Found.the-variants.{At, Nothing}
+use Rattle.model.specs.declared.Node.{Node}
+use Rattle.frontier.specs.Frontier.{Frontier, Placed, FirstLeft}
 use Rattle.frontier.specs.Frontier.Laws.{placed-again, placed-here, placed-other}
 use Rattle.state.specs.declared.Layout.{Layout}
 use Rattle.state.specs.declared.State.{State}
@@ -23,8 +27,26 @@ use Rattle.state.specs.Places.{isWord}
 use Rattle.state.specs.Slots.{slotOf, slotWord, keyWord, Enters}
 use Rattle.state.proofs.Slots.{same-word, same-enters}
 use Rattle.state.proofs.Find.{isWord-low, isWord-same, isWord-other}
-use Rattle.placing.specs.Placing.{Entering, Entered}
-use Rattle.removal.specs.Moving.{shiftsOf, ShiftedFrom, movedWord, Moves, Moved, inSlot, atCurrent, Pours, Poured}
+use Rattle.placing.specs.Placing.{Formed}
+use Rattle.removal.specs.Moving.{shiftsOf, ShiftedFrom, movedWord, Settles, Settled, inSlot, atCurrent, Pours, Poured}
+
+-- The key of node v can be placed (document 01, "One-level heap").
+pub record Moves (layout : Layout) (sizes words distances : List ℕ) (s : State) (bucket v : ℕ) : Type 0 where
+  pub formed : Formed layout sizes
+  pub frontier : Frontier (layout .nodes) (layout .slots) (layout .segments) words
+  pub node : v < layout .nodes
+  pub long : layout .nodes ≤ length distances
+  pub enters : Enters (layout .buckets) (layout .segments) sizes (boundsOf (layout .nodes) words) (s .front) (getD distances v 0) bucket
+  pub current-few : s .current ≤ 4096
+  pub shifts-few : s .tally .shifts < 4294967295
+
+-- Node v has moved (document 01, "One-level heap").
+pub record Moved (layout : Layout) (sizes words words′ distances : List ℕ) (s s′ : State) (bucket v : ℕ) : Type 0 where
+  pub placed : Placed (layout .nodes) (layout .slots) (layout .segments) words words′ v (movedWord layout sizes words distances (s .front) bucket v)
+  pub front : s′ .front ≡ s .front
+  pub current : s′ .current ≡ s .current + isWord 1 (movedWord layout sizes words distances (s .front) bucket v)
+  pub reached : s′ .reached ≡ s .reached
+  pub tally : ShiftedFrom (s .tally) (s′ .tally) bucket
 
 -- The bounds are as they were after a change of a place word.
 pub bounds-same : {n slots K B : ℕ} {w w′ : List ℕ} {v x : ℕ} → B ≤ 22 → Placed n slots K w w′ v x → (i : ℕ) → 1 ≤ i → i ≤ B → bound (boundsOf n w) i ≡ bound (boundsOf n w′) i
@@ -32,27 +54,38 @@ bounds-same {n} {w = w} {w′ = w′} few P i low high = getD-drop (4 * n) w i 0
 
 module _ {layout : Layout} {sizes words distances : List ℕ} {s : State} {bucket v : ℕ} (M : Moves layout sizes words distances s bucket v) {w₁ : List ℕ}
     (P : Placed (layout .nodes) (layout .slots) (layout .segments) words w₁ v 0) where
-  pub move-entering : Entering layout sizes w₁ (s .front) v (getD distances v 0) bucket
-  move-entering = record {
-    formed = M .formed;
-    frontier = P .frontier;
-    node = M .node;
-    unlabelled = placed-here (M .frontier) P (M .node);
-    enters = same-enters (M .enters) (boundsOf (layout .nodes) w₁) (bounds-same (M .formed .sized .few) P);
+  pub settles : Settles layout sizes w₁ distances s bucket v
+  settles = record {
+    entering = record {
+      formed = M .formed;
+      frontier = P .frontier;
+      node = M .node;
+      unlabelled = placed-here (M .frontier) P (M .node);
+      enters = same-enters (M .enters) (boundsOf (layout .nodes) w₁) (bounds-same (M .formed .sized .few) P);
+    };
+    long = M .long;
+    current-few = M .current-few;
+    shifts-few = M .shifts-few;
   }
 
-  pub moved : {w₂ : List ℕ} {r : ℕ} → Entered layout sizes w₁ w₂ (s .front) v (getD distances v 0) bucket r → {s′ : State}
-      → s′ .front ≡ s .front → s′ .current ≡ s .current + r → s′ .reached ≡ s .reached → ShiftedFrom (s .tally) (s′ .tally) bucket
-      → Moved layout sizes words w₂ distances s s′ bucket v
-  moved E f c q t =
+  pub moved : {w₂ : List ℕ} {s′ : State} → Settled layout sizes w₁ w₂ distances s s′ bucket v → Moved layout sizes words w₂ distances s s′ bucket v
+  moved S =
       let e = same-word (M .enters) (boundsOf (layout .nodes) w₁) (bounds-same (M .formed .sized .few) P) in
       record {
-        placed = rw e (placed-again P (E .placed));
-        front = f;
-        current = c ∙ ap (λ (k : ℕ). s .current + k) (E .counted ∙ ap (isWord 1) (sym e));
-        reached = q;
-        tally = t;
+        placed = rw e (placed-again P (S .entered .placed));
+        front = S .front;
+        current = S .current ∙ ap (λ (k : ℕ). s .current + k) (S .entered .counted ∙ ap (isWord 1) (sym e));
+        reached = S .reached;
+        tally = S .tally;
       }
+
+-- What was found at the head of a slot.
+pub left-empty : (n slots K slot : ℕ) (w w′ : List ℕ) (f : Found) → FirstLeft n slots K slot w w′ f → f ≡ Nothing → None (InSlot n K slot w) × (w′ ≡ w)
+left-empty n slots K slot w w′ f left e = subst (λ (f : Found). FirstLeft n slots K slot w w′ f) e left
+
+pub left-held : (n slots K slot : ℕ) (w w′ : List ℕ) (f : Found) {v : Node} → FirstLeft n slots K slot w w′ f → f ≡ At v
+    → InSlot n K slot w (v .0) × Placed n slots K w w′ (v .0) 0
+left-held n slots K slot w w′ f left e = subst (λ (f : Found). FirstLeft n slots K slot w w′ f) e left
 
 -- Some of the slot's nodes have moved.
 pub record Pouring (layout : Layout) (sizes words₀ distances : List ℕ) (s₀ : State) (bucket slot : ℕ) (words : List ℕ) (s : State) : Type 0 where
@@ -128,7 +161,6 @@ module _ {layout : Layout} {sizes words₀ distances : List ℕ} {s₀ : State} 
       formed = Q .formed;
       frontier = P .frontier;
       node = l;
-      held = omega arith;
       long = Q .long;
       enters = rw (P .front) (same-enters (Q .enters v l (first-word v l e)) (boundsOf n words) bounds-from);
       current-few = omega (arith, P .current, count-low n 1 place, Q .frontier .few);
@@ -175,6 +207,15 @@ module _ {layout : Layout} {sizes words₀ distances : List ℕ} {s₀ : State} 
         },
         omega (arith, one-fewer),
       )
+
+    -- A node that has left the slot can be placed; once it is, one node fewer is to be moved.
+    module _ {v : ℕ} {w₁ : List ℕ} (H : InSlot n (layout .segments) slot words v × Placed n (layout .slots) (layout .segments) words w₁ v 0) where
+      pub pour-settles : Settles layout sizes w₁ distances s bucket v
+      pour-settles = settles (pouring-moves v (H .0 .0) (H .0 .1)) (H .1)
+
+      pub pour-next : {w₂ : List ℕ} {s′ : State} → Settled layout sizes w₁ w₂ distances s s′ bucket v
+          → Pouring layout sizes words₀ distances s₀ bucket slot w₂ s′ × (inSlot layout w₂ slot < inSlot layout words slot)
+      pour-next S = pouring-next (H .0 .0) (H .0 .1) (moved (pouring-moves v (H .0 .0) (H .0 .1)) (H .1) S)
 
     pub pouring-end : ((w : ℕ) → (w < n) × (place w ≡ from) → ⊥) → Poured layout sizes words₀ words distances s₀ s bucket slot
     pouring-end none = record {

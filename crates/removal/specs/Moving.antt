@@ -8,14 +8,14 @@ use lib.Dec.{ltb}
 use lib.ListN.{length, getD}
 use Rattle.theory.specs.Sums.{sumBelow}
 use Rattle.bounds.specs.Words.{boundsOf}
-use Rattle.buckets.specs.Words.{places, placeWord}
-use Rattle.frontier.specs.Frontier.{Frontier, Placed}
+use Rattle.buckets.specs.Words.{places, placeWord, bucketOf}
+use Rattle.frontier.specs.Frontier.{Frontier}
 use Rattle.state.specs.declared.Layout.{Layout}
 use Rattle.state.specs.declared.State.{State}
 use Rattle.state.specs.declared.Tally.{Tally}
 use Rattle.state.specs.Places.{isWord}
 use Rattle.state.specs.Slots.{slotOf, slotWord, keyWord, SlotFits, Enters}
-use Rattle.placing.specs.Placing.{Formed}
+use Rattle.placing.specs.Placing.{Formed, Entering, Entered}
 
 -- A shift is counted from a bucket above 1 (document 01, "One-level heap": if j = 1 the node is scanned, and none is shifted).
 abbrev pub shiftsOf : (bucket moved : ℕ) → ℕ
@@ -33,22 +33,19 @@ abbrev pub movedWord : (layout : Layout) → (sizes words distances : List ℕ) 
 movedWord layout sizes words distances front bucket v =
     keyWord (layout .buckets) (layout .segments) sizes (boundsOf (layout .nodes) words) front (getD distances v 0) bucket
 
--- Node v stands in a list, and its key can be placed (document 01, "One-level heap").
-pub record Moves (layout : Layout) (sizes words distances : List ℕ) (s : State) (bucket v : ℕ) : Type 0 where
-  pub formed : Formed layout sizes
-  pub frontier : Frontier (layout .nodes) (layout .slots) (layout .segments) words
-  pub node : v < layout .nodes
-  pub held : 512 ≤ getD (places (layout .nodes) words) v 0
+-- Node v has left its slot, and its key can be placed (document 01, "One-level heap").
+pub record Settles (layout : Layout) (sizes words distances : List ℕ) (s : State) (bucket v : ℕ) : Type 0 where
+  pub entering : Entering layout sizes words (s .front) v (getD distances v 0) bucket
   pub long : layout .nodes ≤ length distances
-  pub enters : Enters (layout .buckets) (layout .segments) sizes (boundsOf (layout .nodes) words) (s .front) (getD distances v 0) bucket
   pub current-few : s .current ≤ 4096
   pub shifts-few : s .tally .shifts < 4294967295
 
--- Node v has moved (document 01, "One-level heap").
-pub record Moved (layout : Layout) (sizes words words′ distances : List ℕ) (s s′ : State) (bucket v : ℕ) : Type 0 where
-  pub placed : Placed (layout .nodes) (layout .slots) (layout .segments) words words′ v (movedWord layout sizes words distances (s .front) bucket v)
+-- Node v is placed by its key, and the move is counted (document 01, "One-level heap" and "The tallies").
+pub record Settled (layout : Layout) (sizes words words′ distances : List ℕ) (s s′ : State) (bucket v : ℕ) : Type 0 where
+  pub counted : ℕ
+  pub entered : Entered layout sizes words words′ (s .front) v (getD distances v 0) bucket counted
   pub front : s′ .front ≡ s .front
-  pub current : s′ .current ≡ s .current + isWord 1 (movedWord layout sizes words distances (s .front) bucket v)
+  pub current : s′ .current ≡ s .current + counted
   pub reached : s′ .reached ≡ s .reached
   pub tally : ShiftedFrom (s .tally) (s′ .tally) bucket
 
@@ -65,6 +62,7 @@ pub record Pours (layout : Layout) (sizes words distances : List ℕ) (s : State
   pub formed : Formed layout sizes
   pub frontier : Frontier (layout .nodes) (layout .slots) (layout .segments) words
   pub below : slot < layout .slots
+  pub within : bucket ≡ bucketOf (layout .segments) slot
   pub long : layout .nodes ≤ length distances
   pub enters : (w : ℕ) → w < layout .nodes → getD (places (layout .nodes) words) w 0 ≡ placeWord (layout .segments) slot
       → Enters (layout .buckets) (layout .segments) sizes (boundsOf (layout .nodes) words) (s .front) (getD distances w 0) bucket

@@ -10,7 +10,7 @@ ghost use mathlib.Core.List.{List};
 ghost use Prim.Native.Nat.{ℕ, _-_, _<_, _≤_};
 ghost use Rattle.removal.specs.Finding.{Holds, LowestBucket, InBucketSome, LowestSegment};
 ghost use Rattle.removal.specs.Removing.{SomeRests, Removes, looksOf, Renews, renewed};
-ghost use Rattle.removal.specs.Moving.{Moves, Moved, ShiftedFrom, Pours, Poured};
+ghost use Rattle.removal.specs.Moving.{Settles, Settled, ShiftedFrom, Pours, Poured};
 
 // The node that was removed, and the run's numbers after it.
 pub struct Removed {
@@ -65,7 +65,7 @@ fn shifted_from(tally: Tally, bucket: usize) -> Tally
     tally
 }
 
-// A node of the segment that is used goes where its key belongs.
+// A node of the segment that is used, which has left its slot, goes where its key belongs.
 fn move_node(
     words: &mut [u32],
     distances: &[u32],
@@ -75,12 +75,11 @@ fn move_node(
     bucket: usize,
     v: Node,
 ) -> State
-    requires { ⌜ Moves layout (now sizes) (now words) (now distances) state bucket (v .0) ⌝ }
-    ensures { λ r. ⌜ Moved layout (now (sizes .entry)) (now (words .entry)) (now (words .exit)) (now (distances .entry)) state r bucket (v .0) ⌝ }
+    requires { ⌜ Settles layout (now sizes) (now words) (now distances) state bucket (v .0) ⌝ }
+    ensures { λ r. ⌜ Settled layout (now (sizes .entry)) (now (words .entry)) (now (words .exit)) (now (distances .entry)) state r bucket (v .0) ⌝ }
 {
     let at = v.0 as usize;
     let key = distances[at];
-    frontier::leave_slot(words, layout.nodes, layout.slots, layout.segments, v);
     let current = placing::enter(words, sizes, layout, state.front, v, key, bucket);
     State {
         front: state.front,
@@ -108,7 +107,7 @@ fn pour(
     let segments = layout.segments;
     let mut moved = state;
     loop {
-        let found = buckets::first(words, n, slots, segments, slot);
+        let found = frontier::take_first(words, n, slots, segments, bucket, slot);
         let Found::At(v) = found else {
             return moved;
         };

@@ -33,6 +33,7 @@ first-bounds-spec =
     (tie.spec
     (λ c. search needs)
     (λ c. c .before .before .before .pre .1 .positive 1 (omega arith))
+    (λ c. record { fits = omega (arith, c .shared-slice-known2 .given 1) })
     (λ c κs. search needs)
     (λ c. search needs)
     (λ c. search needs)

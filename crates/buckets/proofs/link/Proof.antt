@@ -1,9 +1,10 @@
 -- `buckets::link` meets its contract: the laws of `Links.Put` at the words of the slice. Assumes nothing.
-use Prim.Native.Nat.{_+_, _*_, _≤_}
+use Prim.Native.Nat.{_+_, _*_, _≤_, _<_}
 use native.Mathlib.Omega.{arith}
 use lib.ListN.{getD, length-set}
-use Rattle.buckets.specs.Words.Laws.{bucket-le}
-use Rattle.buckets.specs.Links.Put.{head-le, put-empty, put-more}
+use Rattle.buckets.specs.Words.{nodeOr}
+use Rattle.buckets.specs.Words.Laws.{bucket-le, node-or-low}
+use Rattle.buckets.specs.Links.Put.{head-le, put-relinked}
 use borrow.Author.Needs.{needs}
 use Rattle.buckets.proofs.link.Statement.{statement}
 use Rattle.buckets.proofs.link.Tie as tie
@@ -16,14 +17,26 @@ first-le d =
 small : (d : tie.Start) → d .args .bucket ≤ d .args .slot + 1
 small d = omega (arith, bucket-le (d .args .segments) (d .args .slot), d .pre .1 .1 .0 .2)
 
+target : (d : tie.Start) → nodeOr (getD (d .args .words .now) (4 * d .args .n + 32 + d .args .slot) 0) (d .args .v) < d .args .n
+target d = node-or-low _ _ _ (first-le d) (d .pre .1 .1 .0 .0)
+
+add-words : tie.Need-add-words
+add-words c = omega (arith, c .node-or .ensures, target (c .before .before .before))
+
 mul-words : tie.Need-mul-words
-mul-words c = omega (arith, small (c .before))
+mul-words c = omega (arith, c .node-or .ensures, target (c .before .before .before))
 
-add-words-2 : tie.Need-add-words-2
-add-words-2 c = omega (arith, small (c .before))
+slice-write-words : tie.Need-slice-write-words
+slice-write-words c = omega (arith, c .node-or .ensures, target (c .before .before .before))
 
-cast-words : tie.Need-cast-words
-cast-words c = omega (arith, small (c .before))
+mul-words-2 : tie.Need-mul-words-2
+mul-words-2 c = omega (arith, small (c .before .before .before))
+
+add-words-3 : tie.Need-add-words-3
+add-words-3 c = omega (arith, small (c .before .before .before))
+
+cast-words-2 : tie.Need-cast-words-2
+cast-words-2 c = omega (arith, small (c .before .before .before))
 
 slice-write-words-2 : tie.Need-slice-write-words-2
 slice-write-words-2 c = simp length-set (omega arith)
@@ -34,29 +47,14 @@ slice-write-words-3 c = simp length-set (omega arith)
 slice-write-words-4 : tie.Need-slice-write-words-4
 slice-write-words-4 c = simp length-set (omega arith)
 
-cast-u : tie.Need-cast-u
-cast-u c = omega (arith, first-le (c .before .before))
-
-add-words-6 : tie.Need-add-words-6
-add-words-6 c = omega (arith, first-le (c .before .before))
-
-mul-words-7 : tie.Need-mul-words-7
-mul-words-7 c = omega (arith, first-le (c .before .before))
-
 slice-write-words-5 : tie.Need-slice-write-words-5
-slice-write-words-5 c = simp length-set (omega (arith, first-le (c .before .before)))
+slice-write-words-5 c = simp length-set (omega arith)
 
 returns : tie.Need-returns
 returns c =
-    let d = c .before .before in
-    put-more (d .pre .0) (d .pre .1 .0) (d .args .v) (d .args .slot) (d .pre .1 .1 .0 .0) (d .pre .1 .1 .0 .1) _ _ _ _ _
-    (omega (arith, d .pre .1 .1 .0 .2)) (d .pre .1 .1 .1) (c .if1 .taken)
-
-returns-2 : tie.Need-returns-2
-returns-2 c =
-    let d = c .before .before in
-    put-empty (d .pre .0) (d .pre .1 .0) (d .args .v) (d .args .slot) (d .pre .1 .1 .0 .0) (d .pre .1 .1 .0 .1) _ _ _ _
-    (omega (arith, d .pre .1 .1 .0 .2)) (d .pre .1 .1 .1) (c .if1 .left)
+    let d = c .before .before .before in
+    put-relinked (d .pre .0) (d .pre .1 .0) (d .args .v) (d .args .slot) (d .pre .1 .1 .0 .0) (d .pre .1 .1 .0 .1) _ _ _ _ _ _
+    (omega (arith, d .pre .1 .1 .0 .2, c .node-or .ensures)) (d .pre .1 .1 .1)
 
 pub link-spec : {M : Type 1} → statement M
 link-spec =
@@ -67,31 +65,28 @@ link-spec =
     (λ c. search needs)
     (λ c. search needs)
     (λ c. search needs)
+    (λ c κs. search needs)
+    (λ c. search needs)
+    add-words
     mul-words
+    slice-write-words
+    mul-words-2
     (λ c. search needs)
-    add-words-2
-    cast-words
-    (λ c. search needs)
-    (λ c. search needs)
-    (λ c. search needs)
-    (λ c. search needs)
+    add-words-3
+    cast-words-2
     (λ c. search needs)
     (λ c. search needs)
     (λ c. search needs)
     slice-write-words-2
     (λ c. search needs)
+    (λ c. search needs)
+    (λ c. search needs)
     slice-write-words-3
     (λ c. search needs)
-    (λ c. search needs)
-    (λ c. search needs)
     slice-write-words-4
-    cast-u
     (λ c. search needs)
     (λ c. search needs)
-    add-words-6
-    mul-words-7
+    (λ c. search needs)
     slice-write-words-5
     (λ c. search needs)
-    returns
-    (λ c. search needs)
-    returns-2)
+    returns)

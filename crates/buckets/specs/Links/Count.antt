@@ -168,6 +168,10 @@ module _ {n slots segments : ℕ} {words : List ℕ} (L : Linked n slots segment
       take-ready =
           ready from (getD words (countAt n slots from) 0 - 1) (from-bucket .0) (from-bucket .1) is Held v held
 
+      pub take-before : getD words₁ (n + v) 0 ≡ getD words (n + v) 0
+      take-before =
+          recount-other from (getD words (countAt n slots from) 0 - 1) (from-bucket .0) (from-bucket .1) is (n + v) (omega arith)
+
       pub take-moved : {words₂ : List ℕ} → Relinked n slots segments words₁ words₂ v 0 → Moved n slots segments words words₂ v 0
       take-moved R =
           moved from (getD words (countAt n slots from) 0 - 1) (from-bucket .0) (from-bucket .1) is v 0 hv

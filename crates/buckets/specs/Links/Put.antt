@@ -1,21 +1,21 @@
 -- `link`: v, which no slot holds, becomes the first of slot s. `AfterPut` says what the words then are, `put-chains` that such words are
--- in order again, and `put-empty` and `put-more` that the stores of the code's two ways make such words. Assumes nothing.
+-- in order again, and `put-relinked` that the stores of the code make such words. Assumes nothing.
 use mathlib.Core.Path.{_≡_, refl, sym, ap, _∙_}
 use mathlib.Core.Logic.{inl, inr, ⊎-elim, _≢_}
 use mathlib.Core.List.{List, [], _∷_}
-use Prim.Native.Nat.{ℕ, suc, _+_, _*_, _-_, _≤_, _<_}
+use Prim.Native.Nat.{ℕ, suc, _+_, _*_, _≤_, _<_}
 use native.Mathlib.Nat.{suc-inj}
 use native.Mathlib.Omega.{arith}
 use native.Mathlib.Decide.{ℕ-discrete}
 use lib.ListN.{length, getD, set, length-set}
 use Rattle.buckets.specs.Lists.{In, Once}
 use Rattle.buckets.specs.Lists.Without.{in-subst}
-use Rattle.buckets.specs.Words.{placeWord, Free, places, heads, Other, Fits}
-use Rattle.buckets.specs.Words.Laws.{place-named, place-word}
+use Rattle.buckets.specs.Words.{placeWord, nodeOr, Free, places, heads, Other, Fits}
+use Rattle.buckets.specs.Words.Laws.{place-named, place-word, node-or-is, node-or-low, node-or-apart}
 use Rattle.buckets.specs.Links.{Spells, Slot, Chains, Relinked}
 use Rattle.buckets.specs.Links.Chain as chain
 use Rattle.buckets.specs.Links.Chain.{chain-below, first-in, frame, slot-other, chains-again, slots-again}
-use Rattle.buckets.specs.Links.Stores.{store, Each, read-other, read-here, link, link-off, link-here, link-ways, relinked-stores}
+use Rattle.buckets.specs.Links.Stores.{store, read-other, read-here, relinked-stores}
 
 -- v is the first of slot s, with x for its place word, and what the slot held follows it
 record AfterPut (n v s x : ℕ) (words words′ : List ℕ) : Type 0 where
@@ -102,36 +102,37 @@ module _ {n slots segments : ℕ} {words : List ℕ} (F : Fits n slots segments 
   pub head-le : first ≤ n
   head-le = chain.head-le C s hs
 
-  -- what is stored: v's place word, its before word, its next word, the slot's head word, and the old first node's before word
-  module _ (place before next head after : ℕ)
-      (stored : (place ≡ placeWord segments s) × (before ≡ heads n + s) × (next ≡ first) × (head ≡ v + 1) × (after ≡ v))
+  -- what is stored: the old first node's before word, or v's own for now, then v's place word, its before word, its next word, and the
+  -- slot's head word
+  module _ (after place before next head target : ℕ)
+      (stored : (after ≡ v) × (place ≡ placeWord segments s) × (before ≡ heads n + s) × (next ≡ first) × (head ≡ v + 1) × (target ≡ nodeOr first v))
       (free : Free (getD (places n words) v 0)) where
     -- the stores that are left after three
     abbrev put-3 : List (ℕ × ℕ)
-    put-3 = (heads n + s, head) ∷ link n first after
+    put-3 = (v, next) ∷ (heads n + s, head) ∷ []
 
     -- after two
     abbrev put-2 : List (ℕ × ℕ)
-    put-2 = (v, next) ∷ put-3
+    put-2 = (n + v, before) ∷ put-3
 
     -- after one
     abbrev put-1 : List (ℕ × ℕ)
-    put-1 = (n + v, before) ∷ put-2
+    put-1 = (2 * n + v, place) ∷ put-2
 
     -- all the stores
     abbrev put-0 : List (ℕ × ℕ)
-    put-0 = (2 * n + v, place) ∷ put-1
+    put-0 = (n + target, after) ∷ put-1
 
-    off-link : (j : ℕ) → ((u : ℕ) → u < n → first ≡ suc u → j ≢ n + u) → Each (λ i. j ≢ i) (link n first after)
-    off-link j k = link-off n first after j head-le k
+    target-low : target < n
+    target-low = omega (arith, stored .5, node-or-low first v n head-le hv)
 
-    off : (j : ℕ) → (j ≢ 2 * n + v) × (j ≢ n + v) × (j ≢ v) × (j ≢ heads n + s)
-        → ((u : ℕ) → u < n → first ≡ suc u → j ≢ n + u) → getD (store words put-0) j 0 ≡ getD words j 0
-    off j h k = read-other words put-0 j (h .0, (h .1, (h .2, (h .3, off-link j k))))
+    off : (j : ℕ) → (j ≢ 2 * n + v) × (j ≢ n + v) × (j ≢ v) × (j ≢ heads n + s) → j ≢ n + target
+        → getD (store words put-0) j 0 ≡ getD words j 0
+    off j h k = read-other words put-0 j (k, (h .0, (h .1, (h .2, (h .3, tt)))))
 
     off-other : (j : ℕ) → Other n slots j → getD (store words put-0) j 0 ≡ getD words j 0
-    off-other j (inl o) = off j (omega arith) (λ u h e. omega arith)
-    off-other j (inr o) = off j (omega arith) (λ u h e. omega arith)
+    off-other j (inl o) = off j (omega arith) (omega (arith, target-low))
+    off-other j (inr o) = off j (omega arith) (omega (arith, target-low))
 
     out : Free (getD words (2 * n + v) 0)
     out = omega (arith, place-word n words v hv)
@@ -145,48 +146,28 @@ module _ {n slots segments : ℕ} {words : List ℕ} (F : Fits n slots segments 
     put-words : AfterPut n v s (placeWord segments s) words (store words put-0)
     put-words =
         let long : heads n + slots ≤ length words = omega (arith, F .long) in
-        let apart : first ≡ suc v → ⊥ = not-first in
-        let w₁ : List ℕ = set words (2 * n + v) place in
-        let w₂ : List ℕ = set w₁ (n + v) before in
-        let w₃ : List ℕ = set w₂ v next in
+        let low : target < n = target-low in
+        let w₁ : List ℕ = set words (n + target) after in
+        let w₂ : List ℕ = set w₁ (2 * n + v) place in
+        let w₃ : List ℕ = set w₂ (n + v) before in
         record {
-          place = read-here words (2 * n + v) place put-1 (omega arith)
-              (omega arith, (omega arith, (omega arith, off-link (2 * n + v) (λ u h e. omega arith)))) ∙ stored .0;
-          before = read-here w₁ (n + v) before put-2 (simp length-set (omega arith))
-              (omega arith, (omega arith, off-link (n + v) (λ u h e. omega arith))) ∙ stored .1;
-          next = read-here w₂ v next put-3 (simp length-set (omega arith)) (omega arith, off-link v (λ u h e. omega arith)) ∙ stored .2;
-          head = read-here w₃ (heads n + s) head (link n first after) (simp length-set (omega arith))
-              (off-link (heads n + s) (λ u h e. omega arith)) ∙ omega (arith, stored .3);
-          after = λ u h e. link-here n first after (set w₃ (heads n + s) head) u e (simp length-set (omega arith)) ∙ stored .4;
-          other-heads = λ t d. off (heads n + t) (omega arith) (λ u h e. omega arith);
-          nexts = λ y h d. off y (omega arith) (λ u g e. omega arith);
-          befores = λ y h d k. off (n + y) (omega arith) (λ u g e. omega arith);
-          other-places = λ y h d. off (2 * n + y) (omega arith) (λ u g e. omega arith);
+          place = read-here w₁ (2 * n + v) place put-2 (simp length-set (omega arith)) (omega arith, (omega arith, (omega arith, tt))) ∙ stored .1;
+          before = read-here w₂ (n + v) before put-3 (simp length-set (omega arith)) (omega arith, (omega arith, tt)) ∙ stored .2;
+          next = read-here w₃ v next ((heads n + s, head) ∷ []) (simp length-set (omega arith)) (omega arith, tt) ∙ stored .3;
+          head = read-here (set w₃ v next) (heads n + s) head [] (simp length-set (omega arith)) tt ∙ omega (arith, stored .4);
+          after = λ u h e.
+              let t : target ≡ u = stored .5 ∙ node-or-is first v u e in
+              let d : u ≢ v = λ z. not-first (e ∙ ap suc z) in
+              ap (λ (k : ℕ). getD (store words put-0) (n + k) 0) (sym t)
+              ∙ read-here words (n + target) after put-1 (omega arith) (omega arith, (omega arith, (omega arith, (omega arith, tt)))) ∙ stored .0;
+          other-heads = λ t d. off (heads n + t) (omega arith) (omega arith);
+          nexts = λ y h d. off y (omega arith) (omega arith);
+          befores = λ y h d k. let a : y ≢ target = λ e. node-or-apart first v y d k (e ∙ stored .5) in off (n + y) (omega arith) (omega arith);
+          other-places = λ y h d. off (2 * n + y) (omega arith) (omega arith);
         }
 
-    put-relinked : Relinked n slots segments words (store words put-0) v (placeWord segments s)
+    -- v is put into slot s
+    pub put-relinked : Relinked n slots segments words (store words put-0) v (placeWord segments s)
     put-relinked =
         relinked-stores F put-0 v (placeWord segments s) hv (put-words .place) (put-words .other-places) off-other
         (put-chains (F .few) hv hs out C put-words)
-
-  module _ (place before next head : ℕ) where
-    -- the words after the stores that both ways make
-    abbrev put-front : List ℕ
-    put-front = set (set (set (set words (2 * n + v) place) (n + v) before) v next) (heads n + s) head
-
-    -- v is put into slot s
-    abbrev Put : List ℕ → Type 0
-    Put words′ = Relinked n slots segments words words′ v (placeWord segments s)
-
-    -- the code's two ways: slot s was empty, and it was not
-    pub put-empty : (place ≡ placeWord segments s) × (before ≡ heads n + s) × (next ≡ first) × (head ≡ v + 1)
-        → Free (getD (places n words) v 0) → first ≡ 0 → Put put-front
-    put-empty stored free =
-        link-ways n first v Put put-front
-        (put-relinked place before next head v (stored .0, stored .1, stored .2, stored .3, refl) free) .0
-
-    pub put-more : (after : ℕ)
-        → (place ≡ placeWord segments s) × (before ≡ heads n + s) × (next ≡ first) × (head ≡ v + 1) × (after ≡ v)
-        → Free (getD (places n words) v 0) → (first ≡ 0 → ⊥) → Put (set put-front (n + (first - 1)) after)
-    put-more after stored free =
-        link-ways n first after Put put-front (put-relinked place before next head after stored free) .1

@@ -1,9 +1,8 @@
--- Several stores, one after the other, and the store that keeps the before word of a chain's next node. Assumes nothing.
-use mathlib.Core.Path.{_≡_, refl, ap, _∙_, subst}
+-- Several stores, one after the other. Assumes nothing.
+use mathlib.Core.Path.{_≡_, refl, _∙_}
 use mathlib.Core.Logic.{_≢_}
 use mathlib.Core.List.{List, [], _∷_}
-use Prim.Native.Nat.{ℕ, zero, suc, _+_, _*_, _-_, _≤_, _<_}
-use native.Mathlib.Nat.{suc-inj}
+use Prim.Native.Nat.{ℕ, _+_, _*_, _<_}
 use native.Mathlib.Omega.{arith}
 use lib.ListN.{length, getD, set, length-set}
 use lib.Seq.{getD-set-same, getD-set-other}
@@ -33,37 +32,6 @@ read-other words (a ∷ ss) j c =
 pub read-here : (words : List ℕ) (i x : ℕ) (ss : List (ℕ × ℕ)) → i < length words → Each (λ j. i ≢ j) ss
     → getD (store (set words i x) ss) i 0 ≡ x
 read-here words i x ss h c = read-other (set words i x) ss i c ∙ getD-set-same words i x 0 h
-
--- the store to the before word of the node that a word q points to, where there is one
-abbrev pub link : ℕ → ℕ → ℕ → List (ℕ × ℕ)
-link n zero j = []
-link n (suc u) j = (n + u, j) ∷ []
-
-module _ (n q j : ℕ) where
-  pub link-off : (i : ℕ) → q ≤ n → ((u : ℕ) → u < n → q ≡ suc u → i ≢ n + u) → Each (λ k. i ≢ k) (link n q j)
-  link-off i b h = go q b h
-    where
-      go : (q : ℕ) → q ≤ n → ((u : ℕ) → u < n → q ≡ suc u → i ≢ n + u) → Each (λ k. i ≢ k) (link n q j)
-      go zero b h = tt
-      go (suc u) b h = (h u b refl, tt)
-
-  pub link-here : (words : List ℕ) (u : ℕ) → q ≡ suc u → n + u < length words → getD (store words (link n q j)) (n + u) 0 ≡ j
-  link-here words u e h = go q e
-    where
-      go : (q : ℕ) → q ≡ suc u → getD (store words (link n q j)) (n + u) 0 ≡ j
-      go zero e = absurd (omega arith)
-      go (suc k) e =
-          let d : k ≡ u = suc-inj e in
-          ap (λ (i : ℕ). getD (set words (n + i) j) (n + u) 0) d ∙ getD-set-same words (n + u) j 0 h
-
-  -- the code's two ways: q points to no node, and it does
-  pub link-ways : (P : List ℕ → Type 0) (words : List ℕ) → P (store words (link n q j))
-      → (q ≡ 0 → P words) × ((q ≡ 0 → ⊥) → P (set words (n + (q - 1)) j))
-  link-ways P words p = go q p
-    where
-      go : (q : ℕ) → P (store words (link n q j)) → (q ≡ 0 → P words) × ((q ≡ 0 → ⊥) → P (set words (n + (q - 1)) j))
-      go zero p = (λ e. p, λ h. absurd (h refl))
-      go (suc u) p = (λ e. absurd (omega arith), λ h. subst (λ (k : ℕ). P (set words (n + k) j)) (omega arith) p)
 
 -- ---- the lists are in order again
 

@@ -1,20 +1,20 @@
 -- `unlink`: v leaves its slot. `AfterTake` says what the words then are, `take-chains` that such words are in order again, and
--- `take-last` and `take-more` that the stores of the code's two ways make such words. Assumes nothing.
+-- `take-relinked` that the stores of the code make such words. Assumes nothing.
 use mathlib.Core.Path.{_≡_, refl, sym, ap, _∙_, subst}
 use mathlib.Core.Logic.{inl, inr, _≢_}
 use mathlib.Core.List.{List, [], _∷_}
-use Prim.Native.Nat.{ℕ, zero, suc, _+_, _*_, _-_, _≤_, _<_}
+use Prim.Native.Nat.{ℕ, zero, suc, _+_, _*_, _≤_, _<_}
 use native.Mathlib.Nat.{suc-inj}
 use native.Mathlib.Omega.{arith}
 use native.Mathlib.Decide.{ℕ-discrete}
 use lib.ListN.{length, getD, set, length-set}
 use Rattle.buckets.specs.Lists.{In, Once}
 use Rattle.buckets.specs.Lists.Without.{without, in-subst, in-without, not-in-without, in-other, once-without}
-use Rattle.buckets.specs.Words.{placeWord, placeSlot, Held, Named, places, heads, Other, Fits}
-use Rattle.buckets.specs.Words.Laws.{place-word}
+use Rattle.buckets.specs.Words.{placeWord, placeSlot, nodeOr, Held, Named, places, heads, Other, Fits}
+use Rattle.buckets.specs.Words.Laws.{place-word, node-or-is, node-or-low, node-or-apart}
 use Rattle.buckets.specs.Links.{Points, Spells, Slot, Chains, Relinked}
 use Rattle.buckets.specs.Links.Chain.{head-points, chain-below, back, next-in, slot-other, chains-again, slots-again}
-use Rattle.buckets.specs.Links.Stores.{store, Each, read-other, read-here, link, link-off, link-here, link-ways, relinked-stores}
+use Rattle.buckets.specs.Links.Stores.{store, read-other, read-here, relinked-stores}
 
 -- v is in no slot, and what pointed to it points to the node after it
 record AfterTake (n slots v : ℕ) (words words′ : List ℕ) : Type 0 where
@@ -174,26 +174,32 @@ module _ {n slots segments : ℕ} {words : List ℕ} (F : Fits n slots segments 
           chain-below n words (heads n + slot-of) (a .nodes) (a .chain) u
           (next-in n words (heads n + slot-of) (a .nodes) (a .chain) v u slot-of-in e)
 
-  -- what is stored: v's place word, the word that points to v, and the next node's before word
-  module _ (place link-word after : ℕ) (stored : (place ≡ 0) × (link-word ≡ next) × (after ≡ home)) where
+  -- what is stored: v's place word, the word that points to v, and the next node's before word, or v's own again
+  module _ (place link-word after target : ℕ) (stored : (place ≡ 0) × (link-word ≡ next) × (after ≡ home) × (target ≡ nodeOr next v)) where
     -- the stores that are left after one
     abbrev take-1 : List (ℕ × ℕ)
-    take-1 = (home, link-word) ∷ link n next after
+    take-1 = (home, link-word) ∷ (n + target, after) ∷ []
 
     -- all the stores
     abbrev take-0 : List (ℕ × ℕ)
     take-0 = (2 * n + v, place) ∷ take-1
 
-    off-link : (j : ℕ) → ((u : ℕ) → u < n → next ≡ suc u → j ≢ n + u) → Each (λ i. j ≢ i) (link n next after)
-    off-link j k = link-off n next after j next-le k
+    target-low : target < n
+    target-low = omega (arith, stored .3, node-or-low next v n next-le hv)
 
-    off : (j : ℕ) → (j ≢ 2 * n + v) → (j ≢ home) → ((u : ℕ) → u < n → next ≡ suc u → j ≢ n + u)
-        → getD (store words take-0) j 0 ≡ getD words j 0
-    off j h g k = read-other words take-0 j (h, (g, off-link j k))
+    off : (j : ℕ) → (j ≢ 2 * n + v) → (j ≢ home) → (j ≢ n + target) → getD (store words take-0) j 0 ≡ getD words j 0
+    off j h g k = read-other words take-0 j (h, (g, (k, tt)))
 
     off-other : (j : ℕ) → Other n slots j → getD (store words take-0) j 0 ≡ getD words j 0
-    off-other j (inl o) = off j (omega arith) (points-ours n slots j home home-points (inl o)) (λ u h e. omega arith)
-    off-other j (inr o) = off j (omega arith) (points-ours n slots j home home-points (inr o)) (λ u h e. omega arith)
+    off-other j (inl o) = off j (omega arith) (points-ours n slots j home home-points (inl o)) (omega (arith, target-low))
+    off-other j (inr o) = off j (omega arith) (points-ours n slots j home home-points (inr o)) (omega (arith, target-low))
+
+    -- the word stored last
+    target-here : (x : ℕ) → x ≡ target → getD (store words take-0) (n + x) 0 ≡ home
+    target-here x e =
+        let long : heads n + slots ≤ length words = omega (arith, F .long) in
+        ap (λ (k : ℕ). getD (store words take-0) (n + k) 0) e
+        ∙ read-here (set (set words (2 * n + v) place) home link-word) (n + target) after [] (simp length-set (omega (arith, target-low))) tt ∙ stored .2
 
     take-words : AfterTake n slots v words (store words take-0)
     take-words =
@@ -202,35 +208,23 @@ module _ {n slots segments : ℕ} {words : List ℕ} (F : Fits n slots segments 
         let apart : (x : ℕ) → x < n → (home ≢ n + x) × (home ≢ 2 * n + x) = points-off n slots home home-points in
         let w₁ : List ℕ = set words (2 * n + v) place in
         record {
-          place = read-here words (2 * n + v) place take-1 (omega arith)
-              ((λ e. apart v hv .1 (sym e)), off-link (2 * n + v) (λ u h e. omega arith)) ∙ stored .0;
-          link = read-here w₁ home link-word (link n next after) (simp length-set (omega arith)) (off-link home (λ u h e. apart u h .0)) ∙ stored .1;
-          after = λ u h e. link-here n next after (set w₁ home link-word) u e (simp length-set (omega arith)) ∙ stored .2;
-          points = λ j q d. off j (points-off n slots j q v hv .1) d (λ u h e. points-off n slots j q u h .0);
-          befores = λ x h k. off (n + x) (omega arith) (λ e. apart x h .0 (sym e)) (λ u g e. omega arith);
-          other-places = λ x h d. off (2 * n + x) (omega arith) (λ e. apart x h .1 (sym e)) (λ u g e. omega arith);
+          place = read-here words (2 * n + v) place take-1 (omega arith) ((λ e. apart v hv .1 (sym e)), (omega (arith, target-low), tt)) ∙ stored .0;
+          link = read-here w₁ home link-word ((n + target, after) ∷ []) (simp length-set (omega arith)) (apart target target-low .0, tt) ∙ stored .1;
+          after = λ u h e. target-here u (sym (stored .3 ∙ node-or-is next v u e));
+          points = λ j q d. off j (points-off n slots j q v hv .1) d (points-off n slots j q target target-low .0);
+          befores = λ x h k. before x h k (apart x h .0) (ℕ-discrete x target) (ℕ-discrete x v);
+          other-places = λ x h d. off (2 * n + x) (omega arith) (λ e. apart x h .1 (sym e)) (omega (arith, target-low));
         }
-
-    take-relinked : Relinked n slots segments words (store words take-0) v 0
-    take-relinked =
-        relinked-stores F take-0 v 0 hv (take-words .place) (take-words .other-places) off-other
-        (take-chains (F .few) hv (named .0) (named .1) C take-words)
-
-  module _ (place link-word : ℕ) where
-    -- the words after the stores that both ways make
-    abbrev take-front : List ℕ
-    take-front = set (set words (2 * n + v) place) home link-word
+      where
+        before : (x : ℕ) → x < n → (next ≡ suc x → ⊥) → home ≢ n + x → Dec (x ≡ target) → Dec (x ≡ v) → getD (store words take-0) (n + x) 0 ≡ getD words (n + x) 0
+        before x h k a (no d) m = off (n + x) (omega arith) (λ e. a (sym e)) (omega arith)
+        before x h k a (yes d) (yes e) = target-here x d ∙ ap (λ (i : ℕ). getD words (n + i) 0) (sym e)
+        before x h k a (yes d) (no e) = absurd (node-or-apart next v x e k (d ∙ stored .3))
 
     -- v is taken out of its slot
-    abbrev Take : List ℕ → Type 0
-    Take words′ = Relinked n slots segments words words′ v 0
-
-    -- the code's two ways: v was the last of its slot, and it was not
-    pub take-last : (place ≡ 0) × (link-word ≡ next) → next ≡ 0 → Take take-front
-    take-last stored =
-        link-ways n next home Take take-front (take-relinked place link-word home (stored .0, stored .1, refl)) .0
-
-    pub take-more : (after : ℕ) → (place ≡ 0) × (link-word ≡ next) × (after ≡ home) → (next ≡ 0 → ⊥)
-        → Take (set take-front (n + (next - 1)) after)
-    take-more after stored =
-        link-ways n next after Take take-front (take-relinked place link-word after stored) .1
+    pub take-relinked : (at : ℕ) → at ≡ home
+        → Relinked n slots segments words (set (set (set words (2 * n + v) place) at link-word) (n + target) after) v 0
+    take-relinked at e =
+        subst (λ (j : ℕ). Relinked n slots segments words (set (set (set words (2 * n + v) place) j link-word) (n + target) after) v 0) (sym e)
+        (relinked-stores F take-0 v 0 hv (take-words .place) (take-words .other-places) off-other
+        (take-chains (F .few) hv (named .0) (named .1) C take-words))

@@ -1,10 +1,11 @@
--- What is read: `first`, `is_empty`, and `least`, a walk along a slot's chain, of which `Walk` is the loop's invariant and `steps` the
+-- What is read: `first`, `take_first`, `is_empty`, and `least`, a walk along a slot's chain, of which `Walk` is the loop's invariant and `steps` the
 -- measure. Assumes nothing.
 use mathlib.Core.Path.{_≡_, refl, sym, ap, _∙_, subst}
 use mathlib.Core.Logic.{_⊎_, inl, inr, ⊎-elim}
 use mathlib.Core.Bool.{Bool, true, false}
 use mathlib.Core.List.{List, [], _∷_}
-use Prim.Native.Nat.{ℕ, zero, suc, _+_, _-_, _≤_, _<_}
+use Prim.Native.Nat.{ℕ, zero, suc, _+_, _*_, _-_, _≤_, _<_}
+use native.Mathlib.Nat.{suc-inj}
 use native.Mathlib.Omega.{arith}
 use native.Mathlib.Decide.{decLt}
 use lib.Dec.{eqb}
@@ -42,6 +43,20 @@ module _ {n slots segments : ℕ} {words : List ℕ} (L : Linked n slots segment
       let a : Slot n segments words s = L .chains .slot s hs in
       let h : u < n = omega (arith, head-le) in
       (h, place-word n words u h ∙ a .held u (first-in n words (heads n + s) (a .nodes) (a .chain) u e))
+
+  -- the first node's before word is the slot's head word's index, and its place word names the slot's bucket
+  pub first-home : (u : ℕ) → getD words (heads n + s) 0 ≡ suc u → getD words (n + u) 0 ≡ heads n + s
+  first-home u e = go (L .chains .slot s hs .nodes) (L .chains .slot s hs .chain)
+    where
+      go : (l : List ℕ) → Spells n words (heads n + s) l → getD words (n + u) 0 ≡ heads n + s
+      go [] c = absurd (omega arith)
+      go (y ∷ l) c = ap (λ (k : ℕ). getD words (n + k) 0) (suc-inj (sym e ∙ c .0)) ∙ c .2
+
+  pub first-held : (u : ℕ) → InSlot n segments s words u → 512 ≤ getD (places n words) u 0
+  first-held u p = omega (arith, p .1)
+
+  pub first-bucket : (u : ℕ) → InSlot n segments s words u → placeBucket (getD words (2 * n + u) 0) ≡ bucketOf segments s
+  first-bucket u p = omega (arith, place-word n words u (p .0), p .1, L .fits .few)
 
 -- ---- is_empty: one word tells
 

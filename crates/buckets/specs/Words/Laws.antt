@@ -3,14 +3,14 @@ use mathlib.Core.Path.{_≡_, refl, sym, ap, _∙_, subst}
 use mathlib.Core.Logic.{_≢_}
 use mathlib.Core.Bool.{Bool, cond}
 use mathlib.Core.List.{List}
-use Prim.Native.Nat.{ℕ, suc, _+_, _*_, _-_, _/_, _≤_, _<_}
-use native.Mathlib.Nat.{div-le-self, div-eq-of-lt-le, div-mul-le-self, le-div-iff-mul-le, div-lt-iff-lt-mul, div-one}
+use Prim.Native.Nat.{ℕ, zero, suc, _+_, _*_, _-_, _/_, _≤_, _<_}
+use native.Mathlib.Nat.{suc-inj, div-le-self, div-eq-of-lt-le, div-mul-le-self, le-div-iff-mul-le, div-lt-iff-lt-mul, div-one}
 use native.Mathlib.Decide.{ℕ-discrete, decLt}
 use native.Mathlib.Omega.{arith}
 use lib.ListN.{length, getD, set, take, drop, length-set, length-take, length-drop}
 use lib.Seq.{getD-set-same, getD-set-other, getD-take, getD-drop, ext-getD}
 use borrow.Author.Tests.{lt-ltb, le-ltb}
-use Rattle.buckets.specs.Words.{bucketOf, placeWord, placeBucket, placeSlot, Named, places, bucketCount, countWords, countAt, recount, Other, Kept, Fits}
+use Rattle.buckets.specs.Words.{bucketOf, placeWord, placeBucket, placeSlot, nodeOr, Named, places, bucketCount, countWords, countAt, recount, Other, Kept, Fits}
 
 -- ---- buckets of slots
 
@@ -160,3 +160,36 @@ kept-part {n} {own} {words} {words′} k from size other =
   where
     at : (l : List ℕ) (i : ℕ) → i < size → getD (take size (drop from l)) i 0 ≡ getD l (from + i) 0
     at l i g = getD-take size (drop from l) i 0 g ∙ getD-drop from l i 0
+
+-- ---- next and head words
+
+-- the node that a word q points to, or v
+module _ (q v : ℕ) where
+  pub node-or-is : (u : ℕ) → q ≡ suc u → nodeOr q v ≡ u
+  node-or-is u e = go q e
+    where
+      go : (q : ℕ) → q ≡ suc u → nodeOr q v ≡ u
+      go zero e = absurd (omega arith)
+      go (suc k) e = suc-inj e
+
+  pub node-or-low : (n : ℕ) → q ≤ n → v < n → nodeOr q v < n
+  node-or-low n b h = go q b
+    where
+      go : (q : ℕ) → q ≤ n → nodeOr q v < n
+      go zero b = h
+      go (suc k) b = b
+
+  -- no other node
+  pub node-or-apart : (x : ℕ) → x ≢ v → (q ≡ suc x → ⊥) → x ≢ nodeOr q v
+  node-or-apart x d k = go q k
+    where
+      go : (q : ℕ) → (q ≡ suc x → ⊥) → x ≢ nodeOr q v
+      go zero k e = d e
+      go (suc u) k e = k (ap suc (sym e))
+
+  pub node-or-some : (q ≡ 0 → ⊥) → q - 1 ≡ nodeOr q v
+  node-or-some k = go q k
+    where
+      go : (q : ℕ) → (q ≡ 0 → ⊥) → q - 1 ≡ nodeOr q v
+      go zero k = absurd (k refl)
+      go (suc u) k = omega arith

@@ -13,7 +13,10 @@ use Rattle.buckets.specs.Words.{places, heads, owned, Ours, Other, Fits}
 use Rattle.buckets.specs.Words.Laws.{places-length, place-word}
 use Rattle.buckets.specs.Links.{Linked, Moved}
 use Rattle.buckets.specs.Links.Laws.{linked-words, linked-zero, linked-mark, moved-here, moved-other, moved-again}
-use Rattle.frontier.specs.Frontier.{Frontier, Placed, Current, FirstCurrent}
+use Rattle.buckets.specs.Answer.{FirstTaken}
+use Rattle.buckets.specs.declared.Found.{Found}
+use Rattle.buckets.specs.declared.Found.the-variants.{At, Nothing}
+use Rattle.frontier.specs.Frontier.{Frontier, Placed, Current, FirstCurrent, FirstLeft}
 
 -- The bits take at most n words, and the summary four.
 bits-few : (n : ℕ) → 1 ≤ n → bitWords 32 n ≤ n
@@ -62,6 +65,11 @@ module _ {n slots segments : ℕ} {w : List ℕ} (F : Frontier n slots segments 
       was : (u : ℕ) → u < n → getD (places n w′) u 0 ≡ 1 → Dec (u ≡ v) → getD (places n w) u 0 ≡ 1
       was u h e (yes q) = absurd (new (sym (moved-here (F .linked) m hv) ∙ (rw q at e)))
       was u h e (no q) = sym (moved-other (F .linked) m u q) ∙ e
+
+  -- The first node of a slot, if there is one, is in no list.
+  pub first-left : (w′ : List ℕ) (slot : ℕ) (r : Found) → FirstTaken n slots segments slot w w′ r → FirstLeft n slots segments slot w w′ r
+  first-left w′ slot (At v) t = (t .0, moved-placed (t .1) (t .0 .0) (λ e. omega (arith, t .0 .1)) (omega arith))
+  first-left w′ slot Nothing t = t
 
   -- The word of a node that is in no list is stored after its bit was changed.
   module _ {w₁ : List ℕ} {v : ℕ} (hv : v < n) (free : getD (places n w) v 0 < 512) (C : Changed 32 n (3 * n) (4 * n + 24) w w₁ v) (x : ℕ) (low : x < 512)

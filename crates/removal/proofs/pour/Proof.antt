@@ -1,13 +1,9 @@
 -- `removal::pour` meets its contract: the measure is how many nodes the slot still has.
-use Prim.Native.Nat.{ℕ}
-use mathlib.Core.Path.{_≡_}
+use mathlib.Core.Path.{ap, _∙_}
+use lib.ListN.{length}
 use borrow.Author.Needs.{needs}
-use Rattle.model.specs.declared.Node.{Node}
-use Rattle.buckets.specs.declared.Found.the-variants.{At, Nothing}
-use Rattle.buckets.specs.Answer.{InSlot}
 use Rattle.removal.specs.Moving.{inSlot}
-use Rattle.removal.proofs.Finding.{past-empty, past-held}
-use Rattle.removal.proofs.Moving.{Pouring, pouring-start, pouring-moves, pouring-next, pouring-end}
+use Rattle.removal.proofs.Moving.{Pouring, pouring-start, pouring-end, left-empty, left-held, pour-settles, pour-next}
 use Rattle.removal.proofs.pour.Statement.{statement}
 use Rattle.removal.proofs.pour.Tie as tie
 
@@ -20,13 +16,8 @@ abbrev μ-loop : tie.MeasureT-loop
 loop-holds : tie.Need-loop-holds Inv-loop μ-loop
 loop-holds c = pouring-start (c .before .before .before .pre)
 
-first-requires : tie.Need-first-requires Inv-loop μ-loop
-first-requires c κs = (c .before .loop .inv .frontier .linked, c .before .before .before .before .before .pre .below)
-
--- What the test of the slot found.
-module _ (c : tie.After-first Inv-loop μ-loop) where
-  abbrev d : tie.Start Inv-loop μ-loop
-  d = c .before .before .before .before .before .before
+take-first-requires : tie.Need-take-first-requires Inv-loop μ-loop
+take-first-requires c κs = let p = c .before .before .before .before .before .pre in (c .before .loop .inv .frontier, (p .below, p .within))
 
 enum-known-found : tie.Need-enum-known-found Inv-loop μ-loop
 enum-known-found c = search needs
@@ -34,38 +25,52 @@ enum-known-found c = search needs
 enum-told : tie.Need-enum-told Inv-loop μ-loop
 enum-told c = search needs
 
+-- The slot was found empty.
 same-length : tie.Need-same-length Inv-loop μ-loop
-same-length c = c .before .before .before .before .loop .inv .same-length
+same-length c =
+    let a = c .before .before .before .before .before .before .before .before .before .before .args in
+    let t = c .before .before .before .before .take-first in
+    let l = c .before .before .before .before .before .before .loop in
+    let E = left-empty (a .layout .nodes) (a .layout .slots) (a .layout .segments) (a .slot) (l .words) (t .last .0) (t .result) (t .ensures) (c .enum-told .given .1) in
+    ap length (E .1) ∙ l .inv .same-length
 
 returns : tie.Need-returns Inv-loop μ-loop
 returns c =
-    let f = c .before .before in
-    let a = d f .args in
-    pouring-end (d f .pre) (c .before .before .before .before .loop .inv)
-    (past-empty (a .layout .nodes) (a .layout .segments) (a .slot) (c .before .before .before .before .loop .words) (f .first .result) (f .first .ensures) (c .enum-told .given .1))
+    let d = c .before .before .before .before .before .before .before .before .before .before in
+    let a = d .args in
+    let t = c .before .before .before .before .take-first in
+    let l = c .before .before .before .before .before .before .loop in
+    let E = left-empty (a .layout .nodes) (a .layout .slots) (a .layout .segments) (a .slot) (l .words) (t .last .0) (t .result) (t .ensures) (c .enum-told .given .1) in
+    rw (E .1) (pouring-end (d .pre) (l .inv) (E .0))
 
--- The node that was found has the slot's word.
-module _ (c : tie.After-found Inv-loop μ-loop) where
-  held : InSlot (d (c .before .before) .args .layout .nodes) (d (c .before .before) .args .layout .segments) (d (c .before .before) .args .slot) (c .before .before .before .before .loop .words) (c .found .given .0 .0 .0)
-  held =
-      let f = c .before .before in
-      let a = d f .args in
-      past-held (a .layout .nodes) (a .layout .segments) (a .slot) (c .before .before .before .before .loop .words) (f .first .result) (f .first .ensures) (c .found .given .1)
-
+-- A node was found, and has left the slot.
 move-node-requires : tie.Need-move-node-requires Inv-loop μ-loop
 move-node-requires c κs =
-    let g = c .before .before in
-    pouring-moves (c .before .before .before .before .before .before .before .before .before .before .pre) (c .before .before .before .before .before .before .loop .inv) _ (held g .0) (held g .1)
+    let d = c .before .before .before .before .before .before .before .before .before .before .before .before in
+    let a = d .args in
+    let t = c .before .before .before .before .before .before .take-first in
+    let l = c .before .before .before .before .before .before .before .before .loop in
+    let H = left-held (a .layout .nodes) (a .layout .slots) (a .layout .segments) (a .slot) (l .words) (t .last .0) (t .result) (t .ensures) (c .before .before .found .given .1) in
+    pour-settles (d .pre) (l .inv) H
 
+-- It is placed.
 loop-less : tie.Need-loop-less Inv-loop μ-loop
 loop-less c =
-    let g = c .before .before .before .before .before in
-    pouring-next (c .before .before .before .before .before .before .before .before .before .before .before .before .before .pre) (c .before .before .before .before .before .before .before .before .before .loop .inv) (held g .0) (held g .1) (c .before .before .move-node .ensures) .1
+    let d = c .before .before .before .before .before .before .before .before .before .before .before .before .before .before .before in
+    let a = d .args in
+    let t = c .before .before .before .before .before .before .before .before .before .take-first in
+    let l = c .before .before .before .before .before .before .before .before .before .before .before .loop in
+    let H = left-held (a .layout .nodes) (a .layout .slots) (a .layout .segments) (a .slot) (l .words) (t .last .0) (t .result) (t .ensures) (c .before .before .before .before .before .found .given .1) in
+    pour-next (d .pre) (l .inv) H (c .before .before .move-node .ensures) .1
 
 loop-again : tie.Need-loop-again Inv-loop μ-loop
 loop-again c =
-    let g = c .before .before .before .before .before in
-    pouring-next (c .before .before .before .before .before .before .before .before .before .before .before .before .before .pre) (c .before .before .before .before .before .before .before .before .before .loop .inv) (held g .0) (held g .1) (c .before .before .move-node .ensures) .0
+    let d = c .before .before .before .before .before .before .before .before .before .before .before .before .before .before .before in
+    let a = d .args in
+    let t = c .before .before .before .before .before .before .before .before .before .take-first in
+    let l = c .before .before .before .before .before .before .before .before .before .before .before .loop in
+    let H = left-held (a .layout .nodes) (a .layout .slots) (a .layout .segments) (a .slot) (l .words) (t .last .0) (t .result) (t .ensures) (c .before .before .before .before .before .found .given .1) in
+    pour-next (d .pre) (l .inv) H (c .before .before .move-node .ensures) .0
 
 pub pour-spec : {M : Type 1} → statement M
 pour-spec =
@@ -74,7 +79,7 @@ pour-spec =
     Inv-loop
     μ-loop
     loop-holds
-    first-requires
+    take-first-requires
     enum-known-found
     enum-told
     same-length
