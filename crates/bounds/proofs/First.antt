@@ -7,6 +7,7 @@ use mathlib.Core.List.{List, [], _∷_, _++_, append-assoc}
 use lib.ListN.{length, getD, take, drop, set, length-append, length-drop, List·getD-append}
 use lib.Seq.{length-take-le, append-snoc, set-at, take-set-le, drop-set-add, take-add, drop-drop, getD-take, getD-drop, getD-append-add}
 use Rattle.theory.specs.Heap.{bound, rebound, boundsFrom}
+use Rattle.theory.proofs.Heap.Rebound.{boundsFrom-length}
 use Rattle.bounds.specs.Words.{boundsOf, sizeOf, reboundWords, firstWords}
 
 -- Sizes that agree for the buckets set give the same bounds.
@@ -18,11 +19,6 @@ boundsFrom-same size size′ top i sum (suc left) same =
     let e : size i ≡ size′ i = same i (omega arith) (omega arith) in
     rw e (ap (λ (l : List ℕ). min (sum + size′ i - 1) top ∷ l)
     (boundsFrom-same size size′ top (suc i) (sum + size′ i) left (λ k l h. same k (omega arith) (omega arith))))
-
-pub boundsFrom-length : (size : ℕ → ℕ) (top i sum left : ℕ) → length (boundsFrom size top i sum left) ≡ suc left
-unfolding boundsFrom
-boundsFrom-length size top i sum zero = refl
-boundsFrom-length size top i sum (suc left) = let ih = boundsFrom-length size top (suc i) (sum + size i) left in omega arith
 
 -- ---- set one after the other, as in a removal
 

@@ -8,48 +8,9 @@ use mathlib.Core.List.{List}
 use lib.ListN.{length, drop, set, length-set}
 use lib.Seq.{getD-set-same, getD-set-other, drop-set-add}
 use Rattle.theory.specs.Heap.{bound, rebound}
-use Rattle.theory.proofs.Cases.{split, same?}
+use Rattle.theory.proofs.Cases.{same?}
 
 module _ (size : ℕ → ℕ) (t : ℕ) where
-  pub rebound-length : (before i left : ℕ) (u : List ℕ) → length (rebound size t before i left u) ≡ length u
-  unfolding rebound
-  rebound-length before i zero u = refl
-  rebound-length before i (suc left) u = rebound-length (min (before + size i) t) (suc i) left _ ∙ length-set u i _
-
-  pub rebound-before : (before i left : ℕ) (u : List ℕ) (p : ℕ) → p < i → bound (rebound size t before i left u) p ≡ bound u p
-  unfolding rebound
-  rebound-before before i zero u p h = refl
-  rebound-before before i (suc left) u p h =
-      rebound-before (min (before + size i) t) (suc i) left _ p (omega arith) ∙ getD-set-other u i p _ 0 (omega arith)
-
-  pub rebound-after : (before i left : ℕ) (u : List ℕ) (p : ℕ) → i + left ≤ p → bound (rebound size t before i left u) p ≡ bound u p
-  unfolding rebound
-  rebound-after before i zero u p h = refl
-  rebound-after before i (suc left) u p h =
-      rebound-after (min (before + size i) t) (suc i) left _ p (omega arith) ∙ getD-set-other u i p _ 0 (omega arith)
-
-  -- Inside: the first is min(the bound before + size, t), each other min(the one before it + size, t).
-  pub rebound-first : (before i left : ℕ) (u : List ℕ) → i < length u → bound (rebound size t before i (suc left) u) i ≡ min (before + size i) t
-  unfolding rebound
-  rebound-first before i left u h =
-      rebound-before (min (before + size i) t) (suc i) left _ i (omega arith) ∙ getD-set-same u i _ 0 h
-
-  pub rebound-next : (before i left : ℕ) (u : List ℕ) (p : ℕ) → i ≤ p → suc p < i + left → i + left ≤ length u
-      → bound (rebound size t before i left u) (suc p) ≡ min (bound (rebound size t before i left u) p + size (suc p)) t
-  unfolding rebound
-  rebound-next before i zero u p l h long = absurd (omega arith)
-  rebound-next before i (suc zero) u p l h long = absurd (omega arith)
-  rebound-next before i (suc (suc left)) u p l h long =
-      let y : ℕ = min (before + size i) t in
-      elim (split i p) [
-        | inl m ↦ rebound-next y (suc i) (suc left) (set u i y) p m (omega arith) (rw length-set (omega arith))
-        | inr m ↦ let q : p ≡ i = omega arith in rw q (omega (
-          arith,
-          rebound-first y (suc i) left (set u i y) (rw length-set (omega arith)),
-          rebound-first before i (suc left) u (omega arith),
-        ))
-      ]
-
   -- Lists that agree at a place agree there afterwards.
   pub rebound-alike : (before i left : ℕ) (u u′ : List ℕ) (p : ℕ) → i + left ≤ length u → i + left ≤ length u′ → bound u p ≡ bound u′ p
       → bound (rebound size t before i left u) p ≡ bound (rebound size t before i left u′) p

@@ -9,7 +9,7 @@ use lib.Seq.{length-take-le, drop-at, getD-take, getD-drop}
 use Rattle.theory.specs.Heap.{bound, rebound}
 use Rattle.theory.proofs.Cases.{split}
 use Rattle.bounds.specs.Words.{boundsOf, sizeOf, reboundWords}
-use Rattle.bounds.proofs.Rebound.{rebound-length, rebound-before, rebound-after}
+use Rattle.theory.proofs.Heap.Rebound.{rebound-length, rebound-before, rebound-after}
 
 module _ (n : ℕ) (sizes : List ℕ) (end before from to : ℕ) (w : List ℕ) (room : 4 * n ≤ length w) where
   front : length (take (4 * n) w) ≡ 4 * n

@@ -12,16 +12,8 @@ use Rattle.checks.proofs.Order.{Every, none, more}
 
 -- ---- one check
 
-pub passed-or-fault : (check : Check) → (check ≡ Passed) ⊎ ((number : ℕ) × ((place : ℕ) × (check ≡ Fault number place)))
-passed-or-fault Passed = inl refl
-passed-or-fault (Fault number place) = inr (number, (place, refl))
-
 pub passed-no-fault : {check : Check} {number place : ℕ} → check ≡ Passed → check ≡ Fault number place → ⊥
 passed-no-fault e f = let z : _≡_ {A = ℕ} 0 1 = cc in omega arith
-
-pub same-fault : {check : Check} {number place number′ place′ : ℕ} → check ≡ Fault number place → check ≡ Fault number′ place′
-    → (number ≡ number′) × (place ≡ place′)
-same-fault e f = (cc, cc)
 
 -- ---- the numbers that checks give
 

@@ -40,15 +40,6 @@ module _ (bytes : List ℕ) (at end : ℕ) where
       → at + taken ≤ length bytes
   behind-within l h e = omega (arith, field-within (drop at bytes) end l e, length-drop at bytes)
 
-  pub no-field : (ends : List ℕ) → field end (drop at bytes) ≡ NoField → fields (end ∷ ends) (drop at bytes) ≡ NoLine
-  unfolding fields
-  no-field ends e = rw e
-
-  pub one-field : (ends : List ℕ) {value taken : ℕ} {line : Line} → field end (drop at bytes) ≡ Value value taken
-      → fields ends (drop (at + taken) bytes) ≡ line → fields (end ∷ ends) (drop at bytes) ≡ joined value taken line
-  unfolding fields
-  one-field ends {value} {taken} e f = rw e (ap (joined value taken) (ap (fields ends) (drop-drop taken at bytes) ∙ f))
-
 -- ---- a line lies within the bytes
 
 -- what ends each field is a byte

@@ -27,9 +27,6 @@ module _ {layout : Layout} {sizes words : List ℕ} {front v key start : ℕ} (E
   abbrev B : ℕ
   B = layout .buckets
 
-  pub start-read : 4 * n + start < length words
-  start-read = omega (arith, E .enters .within, E .formed .sized .few, E .frontier .linked .fits .long)
-
   pub entered-current : key ≡ front → {words′ : List ℕ} → Placed n (layout .slots) K words words′ v 1 → Entered layout sizes words words′ front v key start 1
   entered-current e P =
       let q : keyWord B K sizes (boundsOf n words) front key start ≡ 1 = rw (eq-eqb key front e) in

@@ -117,11 +117,6 @@ module _ {layout : Layout} {sizes : List ℕ} (X : Setting layout sizes) {before
       let f = slot-fits v on in
       rw (listed-word v on q) (omega (arith, slot-bucket f, slot-below f, slots-few))
 
-  pub bucket-word : (v b : ℕ) → v < n → 1 ≤ b → placeBucket (place v) ≡ b → Labelled (h .search) v × (keyOf h v ≢ s .front) × (bucketOf h v ≡ b)
-  bucket-word v b low p e =
-      let r = word-listed v low (omega arith) in
-      (r .0, r .1, sym (word-bucket v (r .0) (r .1)) ∙ e)
-
   -- A node with the word of a slot stands in that segment.
   pub slot-word : (v b k : ℕ) → SlotFits (layout .buckets) K b k → v < n → place v ≡ slotWord K b k → Labelled (h .search) v × (keyOf h v ≢ s .front) × (bucketOf h v ≡ b) × (segmentOf sh h v ≡ k)
   slot-word v b k f low e =

@@ -1,6 +1,7 @@
 -- The heap over any lawful shape: it picks the search's node, keeps its bounds and buckets right, shifts to strictly lower
 -- buckets, does what the search does, ends, and keeps its counts within their bounds.
 pub mod Laws
+pub mod Rebound
 pub mod Bounds
 pub mod Buckets
 pub mod Shift

@@ -9,6 +9,7 @@ use lib.Seq.{getD-set-same, getD-set-other}
 use Rattle.theory.specs.Shape.{Shape}
 use Rattle.theory.specs.Heap.{bound, rebound, boundsAfter, boundsFrom, firstBounds}
 use Rattle.theory.proofs.Cases.{split}
+use Rattle.theory.proofs.Heap.Rebound.{boundsFrom-length, rebound-length, rebound-before, rebound-after}
 use Rattle.theory.proofs.Heap.Laws.{total, total-mono, Lawful}
 
 -- Sound bounds, when the last node scanned had distance `last`.
@@ -22,11 +23,6 @@ pub record Bounds (sh : Shape) (last : ℕ) (u : List ℕ) : Type 0 where
 
 -- The first bounds: u(p) = min(size(1) + .. + size(p) - 1, u(B)).
 module _ (sh : Shape) where
-  boundsFrom-length : (i sum left : ℕ) → length (boundsFrom (sh .size) (sh .top) i sum left) ≡ suc left
-  unfolding boundsFrom
-  boundsFrom-length i sum zero = refl
-  boundsFrom-length i sum (suc left) = let ih = boundsFrom-length (suc i) (sum + sh .size i) left in omega arith
-
   boundsFrom-last : (i sum left : ℕ) → bound (boundsFrom (sh .size) (sh .top) i sum left) left ≡ sh .top
   unfolding boundsFrom
   boundsFrom-last i sum zero = refl
@@ -53,7 +49,7 @@ module _ (sh : Shape) where
 pub bounds-first : {sh : Shape} {C S : ℕ} → Lawful sh C S → Bounds sh 0 (firstBounds sh)
 unfolding firstBounds total
 bounds-first {sh} law = record {
-  long = omega (arith, boundsFrom-length sh 1 0 (sh .buckets - 1), law .two);
+  long = omega (arith, boundsFrom-length (sh .size) (sh .top) 1 0 (sh .buckets - 1), law .two);
   top = first-top sh (law .two);
   rise = λ i k l m h. elim (split k (sh .buckets)) [
     | inl g ↦ omega (arith, first-at sh i l (omega arith), first-at sh k (omega arith) g, total-mono sh i k m)
@@ -67,25 +63,8 @@ bounds-first {sh} law = record {
   reach = omega arith;
 }
 
--- Setting bounds anew: those from i on, `left` of them, and no others.
+-- Setting bounds anew: those from i on, `left` of them.
 module _ (sh : Shape) (t : ℕ) where
-  rebound-length : (last i left : ℕ) (u : List ℕ) → length (rebound (sh .size) t last i left u) ≡ length u
-  unfolding rebound
-  rebound-length last i zero u = refl
-  rebound-length last i (suc left) u = rebound-length (min (last + sh .size i) t) (suc i) left _ ∙ length-set u i _
-
-  rebound-before : (last i left : ℕ) (u : List ℕ) (p : ℕ) → p < i → bound (rebound (sh .size) t last i left u) p ≡ bound u p
-  unfolding rebound
-  rebound-before last i zero u p h = refl
-  rebound-before last i (suc left) u p h =
-      rebound-before (min (last + sh .size i) t) (suc i) left _ p (omega arith) ∙ getD-set-other u i p _ 0 (omega arith)
-
-  rebound-after : (last i left : ℕ) (u : List ℕ) (p : ℕ) → i + left ≤ p → bound (rebound (sh .size) t last i left u) p ≡ bound u p
-  unfolding rebound
-  rebound-after last i zero u p h = refl
-  rebound-after last i (suc left) u p h =
-      rebound-after (min (last + sh .size i) t) (suc i) left _ p (omega arith) ∙ getD-set-other u i p _ 0 (omega arith)
-
   rebound-at : (a last i left : ℕ) (u : List ℕ) (p : ℕ) → last ≡ min (a + total sh i) t → i + left < length u → i < p → p ≤ i + left
       → bound (rebound (sh .size) t last (suc i) left u) p ≡ min (a + total sh p) t
   unfolding rebound total
@@ -96,7 +75,7 @@ module _ (sh : Shape) (t : ℕ) where
       elim (split (suc i) p) [
         | inl l ↦ rebound-at a y (suc i) left (set u (suc i) y) p y-is (rw length-set (omega arith)) l (omega arith)
         | inr l ↦ let q : p ≡ suc i = omega arith in rw q
-            (rebound-before y (suc (suc i)) left (set u (suc i) y) (suc i) (omega arith) ∙ getD-set-same u (suc i) y 0 (omega arith) ∙ y-is)
+            (rebound-before (sh .size) t y (suc (suc i)) left (set u (suc i) y) (suc i) (omega arith) ∙ getD-set-same u (suc i) y 0 (omega arith) ∙ y-is)
       ]
 
 -- After a removal from segment k of bucket j with smallest key d, u(p) = min(d - 1 + size(1) + .. + size(p), the segment's end) below j,
@@ -104,11 +83,11 @@ module _ (sh : Shape) (t : ℕ) where
 module _ (sh : Shape) (j k d : ℕ) (u : List ℕ) (low : 1 ≤ j) where
   pub after-length : length (boundsAfter sh j k d u) ≡ length u
   unfolding boundsAfter
-  after-length = rebound-length sh (sh .end j (bound u j) k) (d - 1) 1 (j - 1) u
+  after-length = rebound-length (sh .size) (sh .end j (bound u j) k) (d - 1) 1 (j - 1) u
 
   pub after-same : (p : ℕ) → j ≤ p → bound (boundsAfter sh j k d u) p ≡ bound u p
   unfolding boundsAfter
-  after-same p h = rebound-after sh (sh .end j (bound u j) k) (d - 1) 1 (j - 1) u p (omega arith)
+  after-same p h = rebound-after (sh .size) (sh .end j (bound u j) k) (d - 1) 1 (j - 1) u p (omega arith)
 
   pub after-at : j < length u → d ≤ sh .end j (bound u j) k → (p : ℕ) → 1 ≤ p → p < j
       → bound (boundsAfter sh j k d u) p ≡ min (d - 1 + total sh p) (sh .end j (bound u j) k)

@@ -85,10 +85,7 @@ module _ {N : Network} {sh : Shape} {C S : ℕ} (law : Lawful sh C S) {last : �
   pub chooses : Choose sh h (pick sh h (N .nodes)) (nearest (h .search) (N .nodes))
   chooses = join (same-below law h (inv .fits) (N .nodes)) (nearest-right (h .search) (N .nodes) (rest .marks-length))
 
-  -- Bounds are at most the last; a labelled node's segment is at least 1; keys of one segment of bucket 1 are equal.
-  pub bound-top : (i : ℕ) → 1 ≤ i → i ≤ sh .buckets → bound (h .bounds) i ≤ sh .top
-  bound-top i l m = omega (arith, inv .bounds .rise i (sh .buckets) l m (omega arith), inv .bounds .top)
-
+  -- A labelled node's segment is at least 1; keys of one segment of bucket 1 are equal.
   pub segment-low : (v : ℕ) → Labelled (h .search) v → 1 ≤ segmentOf sh h v
   segment-low v on = let f = inv .fits v on in
       law .low (bucketOf h v) (bound (h .bounds) (bucketOf h v)) (keyOf h v) (f .low) (f .under) (late-range (inv .bounds) f (rest .ahead v on))
