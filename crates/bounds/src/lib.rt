@@ -1,5 +1,5 @@
-// The bounds of a radix heap, the bucket and the segment of a key, and the sizes of the buckets, for both heaps (document 01, "One-level
-// heap" and "Two-level heap").
+// The bounds of a radix heap, and the bucket and the segment of a key, for both heaps (document 01, "One-level heap" and "Two-level
+// heap").
 //     words[4 * n + i]    u(i), the bound of bucket i, for 1 ≤ i ≤ B; words[4 * n] is not used
 //     sizes[i]            the size of bucket i, for 1 ≤ i < B, and 1 at i = 0: a segment of bucket i is sizes[i - 1] keys wide
 // The one-level heap has one segment to a bucket.
@@ -7,10 +7,8 @@ ghost use mathlib.Core.Path.{_≡_};
 ghost use mathlib.Core.Bool.{_&&_};
 ghost use Prim.Native.Nat.{_+_, _*_, _≤_, _<_, min};
 ghost use lib.ListN.{length, getD};
-ghost use Rattle.theory.specs.Shape.{ceilLog, oneLevelBuckets, twoLevelBuckets};
 ghost use Rattle.theory.specs.Heap.{bucketFrom};
 ghost use Rattle.bounds.specs.Words.{boundsOf, reboundWords, firstWords, segmented, segmentNumber, segmentEnd, inBucket, inSegment, Sized};
-ghost use Rattle.bounds.specs.Sizes.{oneLevelSizes, twoLevelSizes};
 
 // The bucket of a key, searched for from bucket `start` down.
 pub fn bucket_of(words: &[u32], n: usize, key: u32, start: usize) -> usize
@@ -166,84 +164,4 @@ pub fn is_inside(
         return true;
     }
     false
-}
-
-// The least exponent whose power of `base` is above `ceiling`, for both heaps. The next power is formed only
-// from one that is not above `ceiling`, so that it fits.
-fn ceil_log(base: u32, ceiling: u32) -> u32
-    requires { ⌜ 2 ≤ base ⌝ }
-    requires { ⌜ base ≤ 64 ⌝ }
-    requires { ⌜ ceiling ≤ 1048575 ⌝ }
-    ensures { λ r. ⌜ r ≡ ceilLog base (ceiling + 1) ⌝ }
-{
-    let mut exponent = 0;
-    let mut power = 1;
-    while power <= ceiling {
-        power *= base;
-        exponent += 1;
-    }
-    exponent
-}
-
-// B of the one-level heap.
-pub fn one_level_buckets(ceiling: u32) -> u32
-    requires { ⌜ ceiling ≤ 1048575 ⌝ }
-    ensures { λ r. ⌜ r ≡ oneLevelBuckets ceiling ⌝ }
-{
-    ceil_log(2, ceiling) + 2
-}
-
-// B of the two-level heap.
-pub fn two_level_buckets(ceiling: u32, segments: u32) -> u32
-    requires { ⌜ ceiling ≤ 1048575 ⌝ }
-    requires { ⌜ 2 ≤ segments ⌝ }
-    requires { ⌜ segments ≤ 64 ⌝ }
-    ensures { λ r. ⌜ r ≡ twoLevelBuckets ceiling segments ⌝ }
-{
-    let exponent = ceil_log(segments, ceiling);
-    if exponent < 1 { 2 } else { exponent + 1 }
-}
-
-// The sizes of the buckets of the one-level heap.
-pub fn one_level_sizes() -> [u32; 22]
-    ensures { λ r. ⌜ r ≡ oneLevelSizes ⌝ }
-{
-    [
-        1,
-        1,
-        1,
-        2,
-        4,
-        8,
-        16,
-        32,
-        64,
-        128,
-        256,
-        512,
-        1024,
-        2048,
-        4096,
-        8192,
-        16384,
-        32768,
-        65536,
-        131072,
-        262144,
-        524288,
-    ]
-}
-
-// The sizes of the buckets of the two-level heap: the powers of K = segments, and a 0 at the last place, which is no bucket's.
-pub fn two_level_sizes(segments: u32) -> [u32; 22]
-    ensures { λ r. ⌜ r ≡ twoLevelSizes segments ⌝ }
-{
-    let powers = powers::row(segments);
-    let mut sizes = [0; 22];
-    let mut i = 0;
-    while i < 21 {
-        sizes[i] = powers[i];
-        i += 1;
-    }
-    sizes
 }

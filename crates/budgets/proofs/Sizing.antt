@@ -10,7 +10,8 @@ use Rattle.model.specs.declared.Check.{Check}
 use Rattle.model.specs.declared.Check.the-variants.{Passed, Fault}
 use Rattle.theory.specs.Shape.{oneLevelBuckets, twoLevelBuckets}
 use Rattle.theory.proofs.Shapes.Logarithm.{one-level-most, two-level-most}
-use Rattle.checks.specs.Checks.{faultIf, firstFault}
+use Rattle.check_numbers.specs.Numbers.{faultIf}
+use Rattle.checks.specs.Checks.{firstFault}
 use Rattle.checks.proofs.Order.{AllPass, none, more, passed-all, pass-parts}
 use Rattle.checks.proofs.Sizes.{passed-range, passed-heads, passed-ceiling}
 use Rattle.fields.specs.declared.LineRead.the-variants.{Missing, Taken}

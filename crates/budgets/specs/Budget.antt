@@ -8,7 +8,8 @@ use Rattle.model.specs.declared.Check.{Check}
 use Rattle.model.specs.declared.Check.the-variants.{Passed, Fault}
 use Rattle.model.specs.Answers as answers
 use Rattle.theory.specs.Shape.{oneLevelBuckets, twoLevelBuckets}
-use Rattle.checks.specs.Checks.{faultIf, firstFault, nodesCheck, headCountCheck, ceilingCheck, segmentsCheck}
+use Rattle.check_numbers.specs.Numbers.{faultIf, nodesCheck, headCountCheck, ceilingCheck, segmentsCheck}
+use Rattle.checks.specs.Checks.{firstFault}
 use Rattle.fields.specs.Fields.{Line, NoLine, Numbers, comma, line, renderLine}
 use Rattle.report.specs.Report.{wordOne, wordTwo, ended, refusedText}
 

@@ -1,5 +1,4 @@
 // From a line n,m,C,K to the most heap operations of both heaps (demand 3).
-use checks::numbers;
 use fields::LineRead;
 use model::Check;
 ghost use mathlib.Core.Path.{_≡_};
@@ -8,7 +7,8 @@ ghost use Prim.Native.Nat.{_+_, _-_, _*_, _≤_};
 ghost use lib.Dec.{ltb};
 ghost use lib.ListN.{length, drop};
 ghost use Rattle.model.specs.declared.Check.the-variants.{Passed};
-ghost use Rattle.checks.specs.Checks.{faultIf, firstFault};
+ghost use Rattle.check_numbers.specs.Numbers.{faultIf};
+ghost use Rattle.checks.specs.Checks.{firstFault};
 ghost use Rattle.fields.specs.Writing.{Writes};
 ghost use Rattle.budgets.specs.Budget.{mostReached, Small, sizeChecks, boundsLine, sizeText, budgetText};
 
@@ -59,8 +59,8 @@ fn write_size(output: &mut [u8], nodes: u32, arcs: u32, ceiling: u32, segments: 
     ensures { λ r. ⌜ Writes 0 (sizeText nodes arcs ceiling segments) (now (output .entry)) (now (output .exit)) r ⌝ }
 {
     let reached = most_reached(nodes, arcs);
-    let one = bounds::one_level_buckets(ceiling);
-    let two = bounds::two_level_buckets(ceiling, segments);
+    let one = sizes::one_level_buckets(ceiling);
+    let two = sizes::two_level_buckets(ceiling, segments);
     let next = write_bounds(
         output,
         0,
@@ -86,11 +86,11 @@ fn size_check(nodes: u32, arcs: u32, ceiling: u32, segments: u32, left: usize) -
     ensures { λ r. ⌜ r ≡ firstFault (sizeChecks nodes arcs ceiling segments ++ (faultIf 11 2 (ltb 0 left) ∷ [])) ⌝ }
 {
     let found = checks::first_of(
-        numbers::nodes_check(nodes),
-        numbers::head_count_check(arcs as usize),
+        check_numbers::nodes_check(nodes),
+        check_numbers::head_count_check(arcs as usize),
     );
-    let found = checks::first_of(found, numbers::ceiling_check(ceiling));
-    let found = checks::first_of(found, numbers::segments_check(segments));
+    let found = checks::first_of(found, check_numbers::ceiling_check(ceiling));
+    let found = checks::first_of(found, check_numbers::segments_check(segments));
     checks::first_of(found, left_check(left))
 }
 

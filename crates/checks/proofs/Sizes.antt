@@ -6,9 +6,10 @@ use native.Mathlib.Omega.{arith}
 use lib.Dec.{ltb, eqb}
 use borrow.Author.Tests.{ltb-false, leb-false, eqb-true, not-false, le-ltb, lt-leb, eq-eqb}
 use Rattle.model.specs.declared.Check.the-variants.{Passed}
-use Rattle.checks.specs.Checks.{faultIf, sizeChecks, ceilingCheck, sourceCheck, headCountCheck, arcCountCheck, startCountCheck, lentCheck}
+use Rattle.check_numbers.specs.Numbers.{faultIf, ceilingCheck, sourceCheck, headCountCheck, arcCountCheck, startCountCheck, lentCheck}
+use Rattle.check_lists.proofs.Tests.{or-left, or-right, or-neither}
+use Rattle.checks.specs.Checks.{sizeChecks}
 use Rattle.checks.proofs.Order.{AllPass, none, more}
-use Rattle.checks.proofs.Tests.{or-left, or-right, or-neither}
 
 -- ---- one test
 

@@ -7,11 +7,13 @@ use native.Mathlib.Omega.{arith}
 use lib.ListN.{length}
 use Rattle.model.specs.declared.Check.the-variants.{Passed}
 use Rattle.theory.specs.Maps.{mapOf, Valid}
-use Rattle.checks.specs.Checks.{NoneFalls, firstFault, segmentsCheck, sizeChecks, mapChecks, lentChecks, runLists, oneLevelWork, twoLevelWork, oneLevelChecks, twoLevelChecks}
+use Rattle.check_numbers.specs.Numbers.{segmentsCheck}
+use Rattle.check_lists.specs.Lists.{NoneFalls}
+use Rattle.check_lists.proofs.Start.{rise-passes, passed-fits}
+use Rattle.check_lists.proofs.Words.{heads-below, heads-pass, costs-most, costs-pass}
+use Rattle.checks.specs.Checks.{firstFault, sizeChecks, mapChecks, lentChecks, runLists, oneLevelWork, twoLevelWork, oneLevelChecks, twoLevelChecks}
 use Rattle.checks.proofs.Order.{AllPass, none, more, passed-all, all-passed, first-passed, rest-pass, pass-parts, parts-pass}
 use Rattle.checks.proofs.Sizes.{passed-range, range-passes, passed-ceiling, ceiling-passes, passed-source, source-passes, passed-arcs, arcs-pass, passed-starts, starts-pass, passed-lent, lent-passes}
-use Rattle.checks.proofs.Start.{rise-passes, passed-fits}
-use Rattle.checks.proofs.Words.{heads-below, heads-pass, costs-most, costs-pass}
 
 -- ---- a map
 

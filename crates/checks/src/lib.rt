@@ -1,13 +1,11 @@
 // The checks of what a call is given, in the order of each entry point (document 01, "What a call returns").
+use check_lists::limits;
+use check_lists::starts;
 use model::Check;
 use model::Node;
 ghost use mathlib.Core.Path.{_≡_};
 ghost use mathlib.Core.List.{[], _∷_};
 ghost use Rattle.checks.specs.Checks.{firstFault, sizeChecks, mapChecks, runLists, lentChecks, oneLevelChecks, twoLevelChecks};
-
-pub mod limits;
-pub mod numbers;
-pub mod starts;
 
 // Both checks are made, since none writes and a call that passes needs them all; the first fault counts.
 pub fn first_of(first: Check, second: Check) -> Check
@@ -29,10 +27,13 @@ fn size_check(
 ) -> Check
     ensures { λ r. ⌜ r ≡ firstFault (sizeChecks n ceiling (source .0) starts heads costs) ⌝ }
 {
-    let found = first_of(numbers::nodes_check(n), numbers::ceiling_check(ceiling));
-    let found = first_of(found, numbers::source_check(n, source));
-    let found = first_of(found, numbers::arc_count_check(heads, costs));
-    first_of(found, numbers::start_count_check(n, starts))
+    let found = first_of(
+        check_numbers::nodes_check(n),
+        check_numbers::ceiling_check(ceiling),
+    );
+    let found = first_of(found, check_numbers::source_check(n, source));
+    let found = first_of(found, check_numbers::arc_count_check(heads, costs));
+    first_of(found, check_numbers::start_count_check(n, starts))
 }
 
 // The words are read only once the sizes have passed: number 6 reads n + 1 starts.
@@ -70,11 +71,11 @@ fn run_lists_check(
 {
     let nodes = n as usize;
     let found = first_of(
-        numbers::lent_check(0, distances, nodes),
-        numbers::lent_check(1, parents, nodes),
+        check_numbers::lent_check(0, distances, nodes),
+        check_numbers::lent_check(1, parents, nodes),
     );
-    let found = first_of(found, numbers::lent_check(2, roster, nodes));
-    first_of(found, numbers::lent_check(3, work, needed))
+    let found = first_of(found, check_numbers::lent_check(2, roster, nodes));
+    first_of(found, check_numbers::lent_check(3, work, needed))
 }
 
 pub fn one_level_check(
@@ -119,7 +120,7 @@ pub fn two_level_check(
     let needed = 4 * n as usize + 384;
     let map = map_check(n, ceiling, source, starts, heads, costs);
     let rest = first_of(
-        numbers::segments_check(segments),
+        check_numbers::segments_check(segments),
         run_lists_check(n, distances, parents, roster, work, needed),
     );
     first_of(map, rest)

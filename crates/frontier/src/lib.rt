@@ -52,7 +52,7 @@ pub fn enter_slot(
     requires { ⌜ (slot < slots) × (bucket ≡ bucketOf segments slot) ⌝ }
     ensures { λ _. ⌜ Placed n slots segments (now (words .entry)) (now (words .exit)) (v .0) (placeWord segments slot) ⌝ }
 {
-    buckets::put(words, n, slots, segments, v, bucket, slot);
+    linking::put(words, n, slots, segments, v, bucket, slot);
 }
 
 // v leaves its slot, as unlabelled.
@@ -61,7 +61,7 @@ pub fn leave_slot(words: &mut [u32], n: usize, slots: usize, segments: usize, v:
     requires { ⌜ (v .0 < n) × (512 ≤ getD (places n (now words)) (v .0) 0) ⌝ }
     ensures { λ _. ⌜ Placed n slots segments (now (words .entry)) (now (words .exit)) (v .0) 0 ⌝ }
 {
-    buckets::take(words, n, slots, segments, v);
+    linking::take(words, n, slots, segments, v);
 }
 
 // v leaves its slot as scanned.
@@ -70,7 +70,7 @@ pub fn scan_slot(words: &mut [u32], n: usize, slots: usize, segments: usize, v: 
     requires { ⌜ (v .0 < n) × (512 ≤ getD (places n (now words)) (v .0) 0) ⌝ }
     ensures { λ _. ⌜ Placed n slots segments (now (words .entry)) (now (words .exit)) (v .0) 2 ⌝ }
 {
-    buckets::take(words, n, slots, segments, v);
+    linking::take(words, n, slots, segments, v);
     let at = v.0 as usize;
     words[2 * n + at] = 2;
 }
@@ -88,5 +88,5 @@ pub fn take_first(
     requires { ⌜ (slot < slots) × (bucket ≡ bucketOf segments slot) ⌝ }
     ensures { λ r. ⌜ FirstLeft n slots segments slot (now (words .entry)) (now (words .exit)) r ⌝ }
 {
-    buckets::take_first(words, n, slots, segments, bucket, slot)
+    linking::take_first(words, n, slots, segments, bucket, slot)
 }

@@ -9,8 +9,9 @@ use Rattle.theory.specs.Maps.{none, Map, mapOf, headOf, Route, routeCost, Spell
 use Rattle.theory.specs.Demands.{CheapestRoutes}
 use Rattle.theory.proofs.Maps.Arcs.{leaves-arc}
 use Rattle.theory.proofs.Maps.Routes.{spelled-route}
-use Rattle.route.specs.Routes.{Nodes, nodesOf, routeWalk, nodesAlong, Served}
-use Rattle.route.proofs.Spelled.{along-length, spelled-walk, spelled-short}
+use Rattle.walk.specs.Walk.{Nodes, nodesOf, nodesAlong}
+use Rattle.walk.proofs.Spelled.{along-length, spelled-walk, spelled-short}
+use Rattle.route.specs.Routes.{routeWalk, Served}
 use Rattle.route.proofs.Serving.{spelled-accepted, spelled-served}
 use Rattle.itineraries.specs.Itineraries.{nodesTo, Few, Routable}
 

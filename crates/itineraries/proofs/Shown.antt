@@ -5,14 +5,15 @@ use Rattle.theory.specs.Search.{label, remove, blank}
 use Rattle.theory.specs.Shape.{logFrom, ceilLog, oneLevelBuckets, oneLevel}
 use Rattle.theory.specs.Heap.{bucketFrom, heapLabel, heapRelax, heapRelaxAll, pick, rebound, boundsAfter, move, heapRemove, heapScan, heapFrom, boundsFrom, firstBounds, heapBlank, heapStart, heap}
 use Rattle.theory.specs.Runs.{oneLevelRun}
-use Rattle.checks.specs.Checks.{faultIf, firstFault, lentChecks}
+use Rattle.check_numbers.specs.Numbers.{faultIf}
+use Rattle.checks.specs.Checks.{firstFault, lentChecks}
 use Rattle.fields.specs.Fields.{digits, numberFrom, isField, field, fields, decimalBy, renderFields}
 use Rattle.fields.specs.Texts.{bytesOf}
-use Rattle.reader.specs.Lines.{arcLine, headerLine}
+use Rattle.cursor.specs.Lines.{arcLine, headerLine}
 use Rattle.reader.specs.Checking.{arcChecks, arcsCheck, headerChecks, planCheck}
 use Rattle.reader.specs.Plans.{linesArcs, tailsBelow, startsFrom, leaving, leavingFrom}
 use Rattle.report.specs.Report.{refusedText}
-use Rattle.route.specs.Routes.{tailFrom, walkBack}
+use Rattle.walk.specs.Walk.{tailFrom, walkBack}
 use Rattle.planning.specs.Planning.{planningCheck}
 use Rattle.itineraries.specs.Itineraries.{routeLine, lineIfReached, routeLines, routesText}
 

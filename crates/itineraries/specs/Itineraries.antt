@@ -13,7 +13,8 @@ use Rattle.theory.specs.Maps.{none, Map, mapOf, Route, routeCost}
 use Rattle.theory.specs.Heap.{Heap}
 use Rattle.checks.specs.Checks.{firstFault, oneLevelChecks, oneLevelWork}
 use Rattle.runs.specs.Promise.{RosterFilled, RosterAfter}
-use Rattle.route.specs.Routes.{routeWalk, nodesOf, routeChecks, nodesAlong}
+use Rattle.walk.specs.Walk.{nodesOf, nodesAlong}
+use Rattle.route.specs.Routes.{routeWalk, routeChecks}
 use Rattle.fields.specs.Fields.{comma, decimal, renderLine}
 use Rattle.fields.specs.Writing.{Writes}
 use Rattle.reader.specs.Plans.{Header, PlanArc, planHeader, planArcs, startsOf, headsOf, costsOf}

@@ -23,9 +23,9 @@ use Rattle.fields.specs.Writing.{Writes}
 use Rattle.fields.proofs.Written.{writes-inside}
 use Rattle.reader.specs.declared.PlanAnswer.{PlanAnswer}
 use Rattle.reader.specs.declared.PlanAnswer.the-variants.{Read, Refused}
-use Rattle.reader.specs.declared.HeaderLine.{HeaderLine}
-use Rattle.reader.specs.declared.HeaderLine.the-variants.{NoHeader, HeaderRead}
-use Rattle.reader.specs.Lines.{headerLine}
+use Rattle.cursor.specs.declared.HeaderLine.{HeaderLine}
+use Rattle.cursor.specs.declared.HeaderLine.the-variants.{NoHeader, HeaderRead}
+use Rattle.cursor.specs.Lines.{headerLine}
 use Rattle.reader.specs.Checking.{headerChecks, arcsCheck, headerLineCheck, planCheck}
 use Rattle.reader.specs.Plans.{Header, PlanArc, headerNumbers, planHeader, planArcs, planStarts, planHeads, planCosts}
 use Rattle.reader.specs.Promise.{PlanNumbers, planNumbers, planNumbersOf, wasRead, allPassed, PlanPromised}

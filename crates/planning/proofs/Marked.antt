@@ -7,10 +7,11 @@ use Rattle.theory.specs.Shape.{logFrom, ceilLog, oneLevelBuckets, twoLevelBucke
 use Rattle.theory.specs.Heap.{bucketFrom, heapLabel, heapRelax, heapRelaxAll, pick, rebound, boundsAfter, move, heapRemove, heapScan, heapFrom, boundsFrom, firstBounds, heapBlank, heapStart, heap}
 use Rattle.theory.specs.Runs.{oneLevelRun, twoLevelRun}
 use Rattle.theory.specs.Edges.{Row, Answer, answerTo, edges}
-use Rattle.checks.specs.Checks.{faultIf, firstFault, lentChecks}
+use Rattle.check_numbers.specs.Numbers.{faultIf}
+use Rattle.checks.specs.Checks.{firstFault, lentChecks}
 use Rattle.fields.specs.Fields.{digits, numberFrom, isField, field, fields, decimalBy, renderFields}
 use Rattle.fields.specs.Texts.{bytesOf}
-use Rattle.reader.specs.Lines.{arcLine, headerLine}
+use Rattle.cursor.specs.Lines.{arcLine, headerLine}
 use Rattle.reader.specs.Checking.{arcChecks, arcsCheck, headerChecks, planCheck}
 use Rattle.reader.specs.Plans.{linesArcs, tailsBelow, startsFrom, leaving, leavingFrom}
 use Rattle.report.specs.Report.{refusedText, countsLine, heapLine, orNone, nodeLine, nodeLines, acceptedText}

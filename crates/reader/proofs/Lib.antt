@@ -1,7 +1,5 @@
 mod Answered
 pub mod Arcs
-mod Held
-mod LinesRead
 mod Lists
 mod Passing
 mod Progress

@@ -12,10 +12,11 @@ use Rattle.model.specs.declared.Check.{Check}
 use Rattle.model.specs.declared.Check.the-variants.{Passed, Fault}
 use Rattle.fields.specs.Fields.{Line, NoLine, Numbers, comma, line}
 use Rattle.fields.proofs.Lines.{line-within}
-use Rattle.checks.specs.Checks.{faultIf, firstFault}
+use Rattle.check_numbers.specs.Numbers.{faultIf}
+use Rattle.checks.specs.Checks.{firstFault}
 use Rattle.checks.proofs.Order.{one, stopped, gone-on}
-use Rattle.reader.specs.declared.ArcLine.the-variants.{NoArc, ArcRead}
-use Rattle.reader.specs.Lines.{arcOf, arcLine}
+use Rattle.cursor.specs.declared.ArcLine.the-variants.{NoArc, ArcRead}
+use Rattle.cursor.specs.Lines.{arcOf, arcLine}
 use Rattle.reader.specs.Checking.{arcChecks, arcsCheck}
 
 -- ---- an arc's line lies within the bytes

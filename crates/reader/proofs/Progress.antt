@@ -8,8 +8,8 @@ use native.Mathlib.Omega.{arith}
 use lib.ListN.{length, take, drop, set, replicate, length-append, length-map, length-drop}
 use lib.Seq.{take-at, drop-append-add, drop-drop}
 use Rattle.model.specs.declared.Check.the-variants.{Passed}
-use Rattle.reader.specs.declared.ArcLine.the-variants.{NoArc, ArcRead}
-use Rattle.reader.specs.Lines.{arcLine}
+use Rattle.cursor.specs.declared.ArcLine.the-variants.{NoArc, ArcRead}
+use Rattle.cursor.specs.Lines.{arcLine}
 use Rattle.reader.specs.Checking.{arcsCheck}
 use Rattle.reader.specs.Plans.{PlanArc, linesArcs, tailsBelow, startsFrom, numbered}
 use Rattle.reader.specs.Filling.{Fillable, Filled, between}

@@ -7,9 +7,9 @@ use lib.ListN.{length, drop}
 use lib.Seq.{drop-append-seam}
 use Rattle.fields.specs.Fields.{comma, renderLine}
 use Rattle.fields.proofs.Parsing.{FitFields, line-render}
-use Rattle.reader.specs.declared.ArcLine.the-variants.{ArcRead}
-use Rattle.reader.specs.declared.HeaderLine.the-variants.{HeaderRead}
-use Rattle.reader.specs.Lines.{arcOf, arcLine, headerOf, headerLine}
+use Rattle.cursor.specs.declared.ArcLine.the-variants.{ArcRead}
+use Rattle.cursor.specs.declared.HeaderLine.the-variants.{HeaderRead}
+use Rattle.cursor.specs.Lines.{arcOf, arcLine, headerOf, headerLine}
 use Rattle.reader.specs.Plans.{PlanArc, linesArcs, planArcs}
 use Rattle.reader.specs.Rendering.{arcNumbers, renderArcs, renderHeader, renderPlan}
 

@@ -11,9 +11,9 @@ use Rattle.checks.specs.Checks.{firstFault, lentChecks, oneLevelChecks, oneLeve
 use Rattle.checks.proofs.Order.{AllPass, none, more, passed-all}
 use Rattle.checks.proofs.Sizes.{passed-range, passed-heads, passed-ceiling, passed-source, passed-lent}
 use Rattle.checks.proofs.Valid.{one-level-passes, two-level-passes}
-use Rattle.reader.specs.declared.HeaderLine.{HeaderLine}
-use Rattle.reader.specs.declared.HeaderLine.the-variants.{NoHeader, HeaderRead}
-use Rattle.reader.specs.Lines.{headerLine}
+use Rattle.cursor.specs.declared.HeaderLine.{HeaderLine}
+use Rattle.cursor.specs.declared.HeaderLine.the-variants.{NoHeader, HeaderRead}
+use Rattle.cursor.specs.Lines.{headerLine}
 use Rattle.reader.specs.Checking.{arcsCheck, headerChecks, headerLineCheck, planCheck}
 use Rattle.reader.specs.Plans.{PlanArc, Header, headerNumbers, planHeader, linesArcs, planArcs, numbered, startsOf, headsOf, costsOf, planStarts, planHeads, planCosts}
 use Rattle.reader.proofs.Arcs.{in-order, starts-length, start-at, below-none, below-rises, below-all}

@@ -7,12 +7,12 @@ use lib.Dec.{ltb, leb}
 use lib.ListN.{length, getD, drop}
 use borrow.Author.Tests.{ltb-false, leb-false}
 use Rattle.model.specs.declared.Check.the-variants.{Passed, Fault}
+use Rattle.check_lists.proofs.Tests.{or-left, or-right}
 use Rattle.checks.proofs.Order.{AllPass, none, more, passed-all}
 use Rattle.checks.proofs.Sizes.{passed-test}
-use Rattle.checks.proofs.Tests.{or-left, or-right}
-use Rattle.reader.specs.declared.ArcLine.{ArcLine}
-use Rattle.reader.specs.declared.ArcLine.the-variants.{NoArc, ArcRead}
-use Rattle.reader.specs.Lines.{arcLine}
+use Rattle.cursor.specs.declared.ArcLine.{ArcLine}
+use Rattle.cursor.specs.declared.ArcLine.the-variants.{NoArc, ArcRead}
+use Rattle.cursor.specs.Lines.{arcLine}
 use Rattle.reader.specs.Checking.{arcChecks, arcsCheck}
 use Rattle.reader.specs.Plans.{PlanArc, linesArcs}
 use Rattle.reader.proofs.Arcs.{Rising}

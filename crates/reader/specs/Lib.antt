@@ -1,7 +1,5 @@
-pub mod Lines
 pub mod Checking
 pub mod Plans
 pub mod Promise
 pub mod Rendering
 pub mod Filling
-pub mod Unread

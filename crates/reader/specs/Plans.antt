@@ -4,11 +4,11 @@ use mathlib.Core.Bool.{cond}
 use mathlib.Core.List.{List, [], _∷_, _++_, map}
 use lib.Dec.{ltb, eqb}
 use lib.ListN.{drop}
-use Rattle.reader.specs.declared.ArcLine.{ArcLine}
-use Rattle.reader.specs.declared.ArcLine.the-variants.{NoArc, ArcRead}
-use Rattle.reader.specs.declared.HeaderLine.{HeaderLine}
-use Rattle.reader.specs.declared.HeaderLine.the-variants.{NoHeader, HeaderRead}
-use Rattle.reader.specs.Lines.{arcLine, headerLine}
+use Rattle.cursor.specs.declared.ArcLine.{ArcLine}
+use Rattle.cursor.specs.declared.ArcLine.the-variants.{NoArc, ArcRead}
+use Rattle.cursor.specs.declared.HeaderLine.{HeaderLine}
+use Rattle.cursor.specs.declared.HeaderLine.the-variants.{NoHeader, HeaderRead}
+use Rattle.cursor.specs.Lines.{arcLine, headerLine}
 
 -- ---- the numbers of the file
 

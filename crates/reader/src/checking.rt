@@ -1,9 +1,8 @@
 // The first pass over a planning file: every check in order, and no word written (document 01, "What a call returns").
-use crate::ArcLine;
-use crate::cursor::arc_line_at;
-use crate::cursor::left_over_at;
 use checks::first_of;
-use checks::numbers;
+use cursor::ArcLine;
+use cursor::arc_line_at;
+use cursor::left_over_at;
 use model::Check;
 use model::Node;
 ghost use mathlib.Core.Path.{_≡_};
@@ -11,7 +10,8 @@ ghost use mathlib.Core.List.{[], _∷_, _++_};
 ghost use Prim.Native.Nat.{_≤_};
 ghost use lib.Dec.{ltb};
 ghost use lib.ListN.{length, drop};
-ghost use Rattle.checks.specs.Checks.{faultIf, firstFault, lentChecks};
+ghost use Rattle.check_numbers.specs.Numbers.{faultIf};
+ghost use Rattle.checks.specs.Checks.{firstFault, lentChecks};
 ghost use Rattle.reader.specs.Checking.{arcChecks, arcsCheck, planLists, headerChecks};
 
 // What line 1 tells and the lists lent for it, then the arcs behind it.
@@ -50,11 +50,11 @@ fn header_check(
 ) -> Check
     ensures { λ r. ⌜ r ≡ firstFault (headerChecks n arcs ceiling (source .0) segments starts heads costs) ⌝ }
 {
-    let nodes = numbers::nodes_check(n);
-    let count = numbers::head_count_check(arcs as usize);
-    let limit = numbers::ceiling_check(ceiling);
-    let from = numbers::source_check(n, source);
-    let parts = numbers::segments_check(segments);
+    let nodes = check_numbers::nodes_check(n);
+    let count = check_numbers::head_count_check(arcs as usize);
+    let limit = check_numbers::ceiling_check(ceiling);
+    let from = check_numbers::source_check(n, source);
+    let parts = check_numbers::segments_check(segments);
     let lists = lists_check(n, arcs, starts, heads, costs);
     let found = first_of(nodes, count);
     let found = first_of(found, limit);
@@ -68,10 +68,10 @@ fn lists_check(n: u32, arcs: u32, starts: usize, heads: usize, costs: usize) -> 
 {
     let words = arcs as usize;
     let found = first_of(
-        numbers::lent_check(0, starts, n as usize + 1),
-        numbers::lent_check(1, heads, words),
+        check_numbers::lent_check(0, starts, n as usize + 1),
+        check_numbers::lent_check(1, heads, words),
     );
-    first_of(found, numbers::lent_check(2, costs, words))
+    first_of(found, check_numbers::lent_check(2, costs, words))
 }
 
 fn arcs_check(bytes: &[u8], at: usize, n: u32, ceiling: u32, arcs: u32) -> Check

@@ -1,36 +1,11 @@
 // The reader of planning files (document 01, "Planning file" and "What a call returns").
+use cursor::HeaderLine;
 use model::Check;
 use model::Node;
 ghost use Rattle.reader.specs.Promise.{PlanPromised};
 
 mod checking;
-mod cursor;
 mod filling;
-mod lines;
-
-// An arc's line: its three numbers, and the bytes that it takes.
-pub enum ArcLine {
-    NoArc,
-    ArcRead {
-        tail: u32,
-        head: u32,
-        cost: u32,
-        length: usize,
-    },
-}
-
-// Line 1: its five numbers, and the bytes that it takes.
-pub enum HeaderLine {
-    NoHeader,
-    HeaderRead {
-        nodes: u32,
-        arcs: u32,
-        ceiling: u32,
-        source: u32,
-        segments: u32,
-        length: usize,
-    },
-}
 
 // What the reader gives back.
 pub enum PlanAnswer {

@@ -17,7 +17,8 @@ use Rattle.state.specs.declared.Layout.{Layout}
 use Rattle.state.specs.declared.State.{State}
 use Rattle.state.specs.Stands.{Setting, Lists, Stands}
 use Rattle.bounds.specs.Words.{segmentLooks}
-use Rattle.removal.specs.Removing.{Rests, looksOf}
+use Rattle.finding.specs.Finding.{looksOf}
+use Rattle.removal.specs.Removing.{Rests}
 
 pub looks-most : (K j k : ℕ) → looksOf K j k ≤ j + k
 unfolding segmentLooks
@@ -30,7 +31,7 @@ module _ {layout : Layout} {sizes : List ℕ} {X : Setting layout sizes} {before
   pub reached-low : s .reached < layout .nodes
   reached-low = omega (arith, R .stands .reached, scans-fewer (R .resting .rest) (R .node) (R .labelled), X .nodes)
 
-  pub roster-long : s .reached < length (l .roster)
+  pub roster-long : layout .nodes ≤ length (l .roster)
   roster-long =
       let e : length (l .roster) ≡ length (h .search .roster) + (length before - length (h .search .roster)) =
       ap length (R .stands .roster) ∙ length-append (h .search .roster) (drop (length (h .search .roster)) before)

@@ -31,9 +31,10 @@ use Rattle.state.proofs.Slots.{word-far, slot-bucket, slot-below}
 use Rattle.state.proofs.Find.{isWord-same, isWord-other, node, listed-word, later, key-word}
 use Rattle.state.proofs.Remove.{Removing, listed-min, listed-fit, listed-seg, moved-enters, moved-apart, listed-shifts, listed-stands}
 use Rattle.placing.specs.Placing.{Formed, lists}
-use Rattle.removal.specs.Finding.{Holds, LowestBucket, InBucketSome, LowestSegment}
-use Rattle.removal.specs.Moving.{shiftsOf, movedWord, inSlot, atCurrent, Pours, Poured}
-use Rattle.removal.specs.Removing.{Rests, Removal, Renews, renewed, looksOf}
+use Rattle.finding.specs.Finding.{Holds, LowestBucket, InBucketSome, LowestSegment, looksOf}
+use Rattle.shifting.specs.Renewing.{Renews, renewed}
+use Rattle.shifting.specs.Moving.{shiftsOf, inSlot, Distributes, Distributed}
+use Rattle.removal.specs.Removing.{Rests, Removal}
 use Rattle.removal.proofs.Counts.{nodes-few, shifts-few}
 
 -- The numbers once the node of key x is removed with its looks, and nothing is moved yet.
@@ -195,8 +196,8 @@ module _ {layout : Layout} {sizes : List ℕ} {X : Setting layout sizes} {before
         front-is : s₁ .front ≡ key
         front-is = taken .front ∙ key-of v low
 
-        pours : Pours layout sizes w₂ (l .distances) s₁ j slot
-        pours = record {
+        distributes : Distributes layout sizes w₂ (l .distances) s₁ j slot
+        distributes = record {
           formed = formed;
           frontier = renewed-frontier .0;
           below = slot-in g;
@@ -213,7 +214,7 @@ module _ {layout : Layout} {sizes : List ℕ} {X : Setting layout sizes} {before
         }
 
         -- They have moved.
-        module _ {w₃ : List ℕ} {s′ : State} (D : Poured layout sizes w₂ w₃ (l .distances) s₁ s′ j slot) where
+        module _ {w₃ : List ℕ} {s′ : State} (D : Distributed layout sizes w₂ w₃ (l .distances) s₁ s′ j slot) where
           abbrev h′ : Heap
           h′ = heapRemove (X .shape) j (seg (X .shape) (h .bounds) j key) key v h
 
@@ -256,9 +257,9 @@ module _ {layout : Layout} {sizes : List ℕ} {X : Setting layout sizes} {before
 
       -- The same of words that are known to be those.
       module _ {w : List ℕ} (e : w ≡ w₂) {s₁ : State} (taken : Taken (getD (l .distances) v 0) (looksOf K j k) s s₁) where
-        pub words-pour : Pours layout sizes w (l .distances) s₁ j slot
-        words-pour = rw e (pours taken)
+        pub words-distribute : Distributes layout sizes w (l .distances) s₁ j slot
+        words-distribute = rw e (distributes taken)
 
-        pub words-removed : {w₃ : List ℕ} {s′ : State} → Poured layout sizes w w₃ (l .distances) s₁ s′ j slot
+        pub words-removed : {w₃ : List ℕ} {s′ : State} → Distributed layout sizes w w₃ (l .distances) s₁ s′ j slot
             → Removal X before h (lists w₃ (l .distances) (l .parents) (set (l .roster) (s .reached) v)) s′ v
         words-removed D = listed-removal taken (rw e at D)

@@ -1,8 +1,7 @@
 -- A removal of the words, over every heap that they stand for.
-use Prim.Native.Nat.{ℕ, _+_, _-_, _*_, _≤_, _<_}
-use mathlib.Core.Path.{_≡_}
+use Prim.Native.Nat.{ℕ, _≤_}
 use mathlib.Core.List.{List}
-use lib.ListN.{length, getD}
+use lib.ListN.{length}
 use Rattle.theory.specs.Heap.{Heap, heapRemove}
 use Rattle.theory.proofs.Search.Nearest.{Labelled, Least}
 use Rattle.theory.proofs.Heap.Buckets.{Fits}
@@ -11,8 +10,7 @@ use Rattle.theory.proofs.Heap.Run.{Resting}
 use Rattle.state.specs.declared.Layout.{Layout}
 use Rattle.state.specs.declared.State.{State}
 use Rattle.state.specs.Stands.{Setting, Lists, Stands}
-use Rattle.bounds.specs.Words.{segmentEnd, segmentLooks, reboundWords}
-use Rattle.placing.specs.Placing.{Formed, lists}
+use Rattle.placing.specs.Placing.{lists}
 use Rattle.removal.specs.declared.Removed.{Removed}
 
 -- The words stand for a heap between two removals, with a node labelled (document 01, "The tallies").
@@ -37,25 +35,6 @@ pub record Removal {layout : Layout} {sizes : List ℕ} (X : Setting layout size
   pub fit : Fits (X .shape) (h .bounds) bucket (s′ .front)
   pub least : Least (h .search) v (s′ .front)
   pub stands : Stands layout (X .shape) before (heapRemove (X .shape) bucket (seg (X .shape) (h .bounds) bucket (s′ .front)) (s′ .front) v h) l′ s′
-
--- The looks of a removal from segment k of bucket j, where a bucket has K segments (document 01, "The tallies").
-abbrev pub looksOf : (K j k : ℕ) → ℕ
-looksOf K j k = j + segmentLooks K k
-
--- The bounds below bucket j can be set anew for the smallest key x, of its segment k (document 01, "Two-level heap").
-pub record Renews (layout : Layout) (sizes words : List ℕ) (j k x : ℕ) : Type 0 where
-  pub formed : Formed layout sizes
-  pub long : 4 * layout .nodes + 32 ≤ length words
-  pub low : 1 ≤ j
-  pub high : j ≤ layout .buckets
-  pub segment : k ≤ layout .segments
-  pub positive : 1 ≤ x
-  pub end : x ≤ segmentEnd (layout .buckets) (layout .segments) sizes j (getD words (4 * layout .nodes + j) 0) k
-
--- The words with the bounds below bucket j as a removal of key x from its segment k leaves them (document 01, "Two-level heap").
-abbrev pub renewed : (layout : Layout) → (sizes words : List ℕ) → (j k x : ℕ) → List ℕ
-renewed layout sizes words j k x =
-    reboundWords (layout .nodes) sizes (segmentEnd (layout .buckets) (layout .segments) sizes j (getD words (4 * layout .nodes + j) 0) k) (x - 1) 1 j words
 
 -- What a removal does to every heap that the words stand for (document 01, "The tallies").
 abbrev pub Removes : (layout : Layout) → (sizes words words′ distances roster roster′ : List ℕ) → (s : State) → Removed → Type 0

@@ -2,33 +2,15 @@
 -- returns").
 use Prim.Native.Nat.{ℕ}
 use mathlib.Core.Path.{_≡_}
-use mathlib.Core.List.{List, [], _∷_}
+use mathlib.Core.List.{List}
 use Rattle.model.specs.declared.RunAnswer.{RunAnswer}
-use Rattle.model.specs.Answers.{Numbers, numbersOf}
+use Rattle.model.specs.Answers.{numbersOf}
 use Rattle.runs.specs.Promise.{Lent, OneLevelPromised, TwoLevelPromised}
 use Rattle.route.specs.declared.RouteAnswer.{RouteAnswer}
-use Rattle.route.specs.Routes.{RouteNumbers, routeNumbersOf, RoutePromised}
+use Rattle.route.specs.Routes.{routeNumbersOf, RoutePromised}
 use Rattle.reader.specs.declared.PlanAnswer.{PlanAnswer}
-use Rattle.reader.specs.Promise.{PlanNumbers, planNumbersOf, PlanPromised}
-
--- ---- the numbers as words
-
--- Number and place, then r, B, decreases, placements and looks (document 01, "What the planner holds and leaves out" and "What a call
--- returns").
-abbrev pub runWords : Numbers → List ℕ
-runWords numbers =
-    numbers .returned ∷ numbers .place ∷ numbers .reached ∷ numbers .buckets ∷ numbers .decreases ∷ numbers .placements ∷ numbers .looks ∷ []
-
--- Number and place, then the number of nodes of the route (document 01, "Routes" and "What a call returns").
-abbrev pub routeWords : RouteNumbers → List ℕ
-routeWords numbers = numbers .returned ∷ numbers .place ∷ numbers .nodes ∷ []
-
--- Number and place, then line 1's five numbers (document 01, "Planning file" and "What a call returns").
-abbrev pub readWords : PlanNumbers → List ℕ
-readWords numbers =
-    numbers .returned ∷ numbers .place ∷ numbers .nodes ∷ numbers .arcs ∷ numbers .ceiling ∷ numbers .source ∷ numbers .segments ∷ []
-
--- ---- the promises
+use Rattle.reader.specs.Promise.{planNumbersOf, PlanPromised}
+use Rattle.answer_words.specs.Words.{runWords, routeWords, readWords}
 
 -- The one-level run: its promise, and the numbers of its answer (document 01, "One-level heap" and "What a call returns").
 pub record OneLevelHanded (n C source : ℕ) (starts heads costs : List ℕ) (l l′ : Lent) (numbers′ : List ℕ) : Type 0 where

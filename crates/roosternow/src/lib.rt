@@ -1,71 +1,12 @@
 // The interface for C (include/roosternow.h): each function hands numbers and lists to an entry point, and writes what it answers to a
 // lent array of fixed size (document 01, "What a call returns").
+use answer_words::read_words;
+use answer_words::route_words;
+use answer_words::run_words;
 use model::Node;
-use model::RunAnswer;
-use reader::PlanAnswer;
-use route::RouteAnswer;
-ghost use mathlib.Core.Path.{_≡_};
-ghost use Rattle.model.specs.Answers.{numbersOf};
 ghost use Rattle.runs.specs.Promise.{lent};
-ghost use Rattle.route.specs.Routes.{routeNumbersOf};
-ghost use Rattle.reader.specs.Promise.{planNumbersOf};
 ghost use Rattle.planning.specs.Planning.{planLists, PlanningPromised};
-ghost use Rattle.roosternow.specs.Handing.{runWords, routeWords, readWords, OneLevelHanded, TwoLevelHanded, RouteHanded, ReadHanded};
-
-fn run_words(answer: RunAnswer) -> [u64; 7]
-    ensures { λ r. ⌜ r ≡ runWords (numbersOf answer) ⌝ }
-{
-    match answer {
-        RunAnswer::Accepted {
-            reached,
-            buckets,
-            decreases,
-            placements,
-            looks,
-        } => [
-            0,
-            0,
-            reached as u64,
-            buckets as u64,
-            decreases as u64,
-            placements as u64,
-            looks as u64,
-        ],
-        RunAnswer::Refused { number, place } => [number as u64, place as u64, 0, 0, 0, 0, 0],
-    }
-}
-
-fn route_words(answer: RouteAnswer) -> [u64; 3]
-    ensures { λ r. ⌜ r ≡ routeWords (routeNumbersOf answer) ⌝ }
-{
-    match answer {
-        RouteAnswer::Found { nodes } => [0, 0, nodes as u64],
-        RouteAnswer::Refused { number, place } => [number as u64, place as u64, 0],
-    }
-}
-
-fn read_words(answer: PlanAnswer) -> [u64; 7]
-    ensures { λ r. ⌜ r ≡ readWords (planNumbersOf answer) ⌝ }
-{
-    match answer {
-        PlanAnswer::Read {
-            nodes,
-            arcs,
-            ceiling,
-            source,
-            segments,
-        } => [
-            0,
-            0,
-            nodes as u64,
-            arcs as u64,
-            ceiling as u64,
-            source.0 as u64,
-            segments as u64,
-        ],
-        PlanAnswer::Refused { number, place } => [number as u64, place as u64, 0, 0, 0, 0, 0],
-    }
-}
+ghost use Rattle.roosternow.specs.Handing.{OneLevelHanded, TwoLevelHanded, RouteHanded, ReadHanded};
 
 // The one-level run.
 #[no_mangle]

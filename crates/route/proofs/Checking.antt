@@ -13,15 +13,17 @@ use Rattle.theory.specs.Maps.{mapOf, parentOf, Valid}
 use Rattle.theory.specs.Maps as maps
 use Rattle.theory.proofs.Cases.{differ}
 use Rattle.theory.proofs.Lists.{getD-inside, getD-replicate-same}
-use Rattle.checks.specs.Checks.{faultIf, firstFault, sizeChecks, mapChecks}
+use Rattle.check_numbers.specs.Numbers.{faultIf}
+use Rattle.check_lists.proofs.Words.{costs-pass}
+use Rattle.checks.specs.Checks.{firstFault, sizeChecks, mapChecks}
 use Rattle.checks.proofs.Order.{Made, AllPass, none, more, passed-all, all-passed, first-passed, rest-pass, pass-parts, stopped, gone-on}
 use Rattle.checks.proofs.Sizes.{passed-range, passed-source, passed-heads, ceiling-passes, arcs-pass, passed-starts, passed-lent}
-use Rattle.checks.proofs.Words.{costs-pass}
 use Rattle.checks.proofs.Valid.{passed-valid}
+use Rattle.walk.specs.declared.Walked.{Walked}
+use Rattle.walk.specs.declared.Walked.the-variants.{Lost, NoRoom, Arrived}
+use Rattle.walk.specs.Walk.{Walk, NoWalk, Nodes, nodesOf, Table, walkedOf, walkedWords}
 use Rattle.route.specs.declared.RouteAnswer.{RouteAnswer}
-use Rattle.route.specs.declared.Walked.{Walked}
-use Rattle.route.specs.declared.Walked.the-variants.{Lost, NoRoom, Arrived}
-use Rattle.route.specs.Routes.{Walk, NoWalk, Nodes, nodesOf, routeWalk, tableSizeChecks, tableChecks, destinationCheck, parentCheck, walkCheck, roomCheck, routeChecks, routeNumbersOf, RouteGiven, RoutePromised, Table, walkedOf, walkedWords, walkedNumbers}
+use Rattle.route.specs.Routes.{routeWalk, tableSizeChecks, tableChecks, destinationCheck, parentCheck, walkCheck, roomCheck, routeChecks, routeNumbersOf, RouteGiven, RoutePromised, walkedNumbers}
 
 -- ---- the table
 

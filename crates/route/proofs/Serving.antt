@@ -18,15 +18,17 @@ use Rattle.theory.specs.Demands.{CheapestRoutes}
 use Rattle.theory.proofs.Cases.{same?}
 use Rattle.theory.proofs.Maps.Arcs.{leaves-arc}
 use Rattle.theory.proofs.Maps.Routes.{spelled-route}
-use Rattle.checks.specs.Checks.{faultIf, firstFault, sizeChecks, mapChecks, headCountCheck, oneLevelWork, twoLevelWork, oneLevelChecks, twoLevelChecks}
+use Rattle.check_numbers.specs.Numbers.{faultIf, headCountCheck}
+use Rattle.checks.specs.Checks.{firstFault, sizeChecks, mapChecks, oneLevelWork, twoLevelWork, oneLevelChecks, twoLevelChecks}
 use Rattle.checks.proofs.Order.{AllPass, none, more, passed-all, all-passed, parts-pass}
 use Rattle.checks.proofs.Sizes.{passed-arcs, lent-passes}
 use Rattle.checks.proofs.Valid.{passed-valid, valid-passed, one-level-passed, two-level-passed}
 use Rattle.theory.specs.Shape.{oneLevelBuckets, twoLevelBuckets}
 use Rattle.theory.specs.Heap.{Heap}
 use Rattle.runs.specs.Promise.{Lent, Promised, OneLevelPromised, TwoLevelPromised}
-use Rattle.route.specs.Routes.{Walk, Nodes, nodesOf, routeWalk, tableSizeChecks, tableChecks, destinationCheck, parentCheck, walkCheck, roomCheck, routeChecks, nodesAlong, Served}
-use Rattle.route.proofs.Spelled.{along-length, spelled-walk, spelled-node, spelled-short}
+use Rattle.walk.specs.Walk.{Walk, Nodes, nodesOf, nodesAlong}
+use Rattle.walk.proofs.Spelled.{along-length, spelled-walk, spelled-node, spelled-short}
+use Rattle.route.specs.Routes.{routeWalk, tableSizeChecks, tableChecks, destinationCheck, parentCheck, walkCheck, roomCheck, routeChecks, Served}
 
 -- ---- the checks of a route over a valid map
 

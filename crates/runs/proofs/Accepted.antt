@@ -18,7 +18,7 @@ use Rattle.theory.specs.Runs.{oneLevelRun, twoLevelRun}
 use Rattle.theory.specs.Demands.{Demanded}
 use Rattle.theory.proofs.Shapes.Logarithm.{one-level-most, two-level-most}
 use Rattle.theory.proofs.Demands.{one-level-demanded, two-level-demanded}
-use Rattle.bounds.specs.Sizes.{oneLevelSizes, twoLevelSizes}
+use Rattle.sizes.specs.Sizes.{oneLevelSizes, twoLevelSizes}
 use Rattle.state.specs.declared.Layout.{Layout}
 use Rattle.state.specs.declared.State.{State}
 use Rattle.state.specs.Stands.{Setting}

@@ -15,8 +15,8 @@ use Rattle.theory.proofs.Maps.Arcs.{map-admissible}
 use Rattle.theory.proofs.Shapes.Logarithm.{ceilLog-least, ceilLog-most, one-level-most, two-level-most}
 use Rattle.theory.proofs.Shapes.OneLevel.{lawful-one}
 use Rattle.theory.proofs.Shapes.TwoLevel.{lawful-two}
-use Rattle.bounds.specs.Sizes.{oneLevelSizes, twoLevelSizes}
-use Rattle.bounds.proofs.Agreement.{one-agrees, two-agrees}
+use Rattle.sizes.specs.Sizes.{oneLevelSizes, twoLevelSizes}
+use Rattle.sizes.proofs.Shapes.{one-agrees, two-agrees}
 use Rattle.buckets.specs.Words.{Fits, owned}
 use Rattle.buckets.specs.Words.Laws.{bucket-count, count-words, no-count-words}
 use Rattle.state.specs.declared.Layout.{Layout}

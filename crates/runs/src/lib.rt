@@ -92,8 +92,8 @@ fn one_level_steps(
         (lent (now (distances .entry)) (now (parents .entry)) (now (roster .entry)) (now (work .entry)))
         (lent (now (distances .exit)) (now (parents .exit)) (now (roster .exit)) (now (work .exit))) ⌝ }
 {
-    let buckets = bounds::one_level_buckets(ceiling);
-    let sizes = bounds::one_level_sizes();
+    let buckets = sizes::one_level_buckets(ceiling);
+    let sizes = sizes::one_level_sizes();
     let layout = Layout {
         nodes: n as usize,
         buckets: buckets as usize,
@@ -185,8 +185,8 @@ fn two_level_steps(
         (lent (now (distances .entry)) (now (parents .entry)) (now (roster .entry)) (now (work .entry)))
         (lent (now (distances .exit)) (now (parents .exit)) (now (roster .exit)) (now (work .exit))) ⌝ }
 {
-    let buckets = bounds::two_level_buckets(ceiling, segments);
-    let sizes = bounds::two_level_sizes(segments);
+    let buckets = sizes::two_level_buckets(ceiling, segments);
+    let sizes = sizes::two_level_sizes(segments);
     let slots = (buckets - 1) * segments + 1;
     let layout = Layout {
         nodes: n as usize,

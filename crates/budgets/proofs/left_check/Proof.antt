@@ -1,7 +1,7 @@
 -- `budgets::left_check` meets its contract. Assumes nothing.
 use mathlib.Core.Path.{refl}
 use borrow.Author.Tests.{lt-ltb, le-ltb}
-use Rattle.checks.specs.Checks.{faultIf}
+use Rattle.check_numbers.specs.Numbers.{faultIf}
 use Rattle.budgets.proofs.left_check.Statement.{statement}
 use Rattle.budgets.proofs.left_check.Tie as tie
 

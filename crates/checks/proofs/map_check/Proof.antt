@@ -4,7 +4,8 @@ use mathlib.Core.List.{List, [], _∷_}
 use lib.ListN.{length}
 use borrow.Author.Needs.{needs}
 use Rattle.model.specs.declared.Check.{Check}
-use Rattle.checks.specs.Checks.{sizeChecks, mapChecks, startsCheck, headsCheck, costsCheck}
+use Rattle.check_lists.specs.Lists.{startsCheck, headsCheck, costsCheck}
+use Rattle.checks.specs.Checks.{sizeChecks, mapChecks}
 use Rattle.checks.proofs.Order.{AllPass, passed-all, all-passed, one, both, stopped, gone-on}
 use Rattle.checks.proofs.Sizes.{sized}
 use Rattle.checks.proofs.map_check.Statement.{statement}

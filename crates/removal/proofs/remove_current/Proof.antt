@@ -19,7 +19,7 @@ take-current-requires : tie.Need-take-current-requires
 take-current-requires c κs = let p = c .before .before .before .before .before .before .before .before .pre in (p .0 .rests .stands .frontier, current-node (p .0 .rests) (p .1))
 
 slice-write-roster : tie.Need-slice-write-roster
-slice-write-roster c = roster-long (c .before .before .before .before .before .before .before .before .before .before .before .before .pre .0 .rests)
+slice-write-roster c = let R = c .before .before .before .before .before .before .before .before .before .before .before .before .pre .0 .rests in omega (arith, reached-low R, roster-long R)
 
 add-t22 : tie.Need-add-t22
 add-t22 c = let R = c .before .before .before .before .before .before .before .before .before .before .before .before .before .before .pre .0 .rests in omega (arith, reached-low R, nodes-few R)

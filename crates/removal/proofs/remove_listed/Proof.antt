@@ -4,10 +4,10 @@ use native.Mathlib.Omega.{arith}
 use lib.ListN.{getD}
 use denote.Ref.{now}
 use Rattle.state.specs.declared.State.{State}
-use Rattle.removal.specs.Removing.{looksOf}
+use Rattle.finding.specs.Finding.{looksOf}
 use mathlib.Core.Path.{_≡_, refl}
 use Rattle.removal.proofs.Counts.{reached-low, roster-long, nodes-few, looks-few, looks-most}
-use Rattle.removal.proofs.Listed.{listed-holds, bucket-some, slot-in, distances-long, held, renews, Taken, words-pour, words-removed}
+use Rattle.removal.proofs.Listed.{listed-holds, bucket-some, slot-in, distances-long, held, renews, Taken, words-distribute, words-removed}
 use borrow.Author.Needs.{needs}
 use Rattle.removal.proofs.remove_listed.Statement.{statement}
 use Rattle.removal.proofs.remove_listed.Tie as tie
@@ -46,8 +46,11 @@ renew-bounds-requires c κs =
     let p = c .before .before .before .before .before .before .before .before .before .before .before .before .before .before .before .before .before .pre in
     renews (p .0 .rests) (p .1) (c .before .before .before .before .before .before .before .before .before .before .before .lowest-bucket .ensures) (c .before .before .before .before .before .before .before .before .before .lowest-segment .ensures) (c .before .before .before .before .before .before .before .least .ensures) (c .before .before .before .scan-slot .ensures)
 
+-- The roster has a word for every node, also for the one of v's number; that the next word is written is for `returns`.
 slice-write-roster : tie.Need-slice-write-roster
-slice-write-roster c = roster-long (c .before .before .before .before .before .before .before .before .before .before .before .before .before .before .before .before .before .before .before .before .before .pre .0 .rests)
+slice-write-roster c =
+    let R = c .before .before .before .before .before .before .before .before .before .before .before .before .before .before .before .before .before .before .before .before .before .pre .0 .rests in
+    omega (arith, reached-low R, roster-long R, c .before .before .before .before .before .before .before .before .before .before .before .least .ensures .in-slot .0)
 
 looks-of-requires : tie.Need-looks-of-requires
 looks-of-requires c κs =
@@ -97,17 +100,17 @@ module _ (c : tie.After-looked) where
         looks = cc (t .3, c .before .before .looks-of .ensures);
       }
 
-pour-requires : tie.Need-pour-requires
-pour-requires c κs =
+distribute-requires : tie.Need-distribute-requires
+distribute-requires c κs =
     let p = c .before .before .before .before .before .before .before .before .before .before .before .before .before .before .before .before .before .before .before .before .before .before .before .before .before .pre in
-    words-pour (p .0 .rests) (p .1) (c .before .before .before .before .before .before .before .before .before .before .before .before .before .before .before .before .before .before .before .lowest-bucket .ensures) (c .before .before .before .before .before .before .before .before .before .before .before .before .before .before .before .before .before .lowest-segment .ensures) (c .before .before .before .before .before .before .before .before .before .before .before .before .before .before .before .least .ensures) (c .before .before .before .before .before .before .before .before .before .before .before .scan-slot .ensures) (c .before .before .before .before .before .before .before .renew-bounds .ensures)
+    words-distribute (p .0 .rests) (p .1) (c .before .before .before .before .before .before .before .before .before .before .before .before .before .before .before .before .before .before .before .lowest-bucket .ensures) (c .before .before .before .before .before .before .before .before .before .before .before .before .before .before .before .before .before .lowest-segment .ensures) (c .before .before .before .before .before .before .before .before .before .before .before .before .before .before .before .least .ensures) (c .before .before .before .before .before .before .before .before .before .before .before .scan-slot .ensures) (c .before .before .before .before .before .before .before .renew-bounds .ensures)
     (taken (c .before))
 
 returns : tie.Need-returns
 returns c X before parents h R =
     let p = c .before .before .before .before .before .before .before .before .before .before .before .before .before .before .before .before .before .before .before .before .before .before .before .before .before .before .before .before .pre in
     words-removed R (p .1) (c .before .before .before .before .before .before .before .before .before .before .before .before .before .before .before .before .before .before .before .before .before .before .lowest-bucket .ensures) (c .before .before .before .before .before .before .before .before .before .before .before .before .before .before .before .before .before .before .before .before .lowest-segment .ensures) (c .before .before .before .before .before .before .before .before .before .before .before .before .before .before .before .before .before .before .least .ensures) (c .before .before .before .before .before .before .before .before .before .before .before .before .before .before .scan-slot .ensures) (c .before .before .before .before .before .before .before .before .before .before .renew-bounds .ensures)
-    (taken (c .before .before .before .before)) (c .before .before .pour .ensures)
+    (taken (c .before .before .before .before)) (c .before .before .distribute .ensures)
 
 pub remove-listed-spec : {M : Type 1} → statement M
 remove-listed-spec =
@@ -131,7 +134,7 @@ remove-listed-spec =
     looks-of-requires
     add-t28
     looked-requires
-    pour-requires
+    distribute-requires
     (λ c. search needs)
     (λ c. search needs)
     returns)

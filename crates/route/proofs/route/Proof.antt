@@ -7,7 +7,8 @@ use lib.ListN.{length}
 use borrow.Author.Needs.{needs}
 use Rattle.model.specs.declared.Check.the-variants.{Passed}
 use Rattle.checks.specs.Checks.{firstFault}
-use Rattle.route.specs.Routes.{tableChecks, destinationCheck, parentCheck, Table, Walks, walkedNumbers}
+use Rattle.walk.specs.Walk.{Table, Walks}
+use Rattle.route.specs.Routes.{tableChecks, destinationCheck, parentCheck, walkedNumbers}
 use Rattle.route.proofs.Checking.{passed-table, destination-node, table-refused, destination-refused, walk-promised}
 use Rattle.route.proofs.route.Statement.{statement}
 use Rattle.route.proofs.route.Tie as tie
@@ -37,7 +38,7 @@ returns-2 c =
     (sym (c .before .before .before .destination-check .ensures) ∙ c .before .check .given .1) refl
 
 sub-walk : tie.Need-sub-walk
-sub-walk c = table (c .before .before .before .before .before .before .before .before .before .before .before) (sym (c .before .before .before .before .before .before .table-check .ensures) ∙ c .before .before .before .before .enum-told .given .1) .valid .some-node
+sub-walk c = omega (arith, table (c .before .before .before .before .before .before .before .before .before .before .before) (sym (c .before .before .before .before .before .before .table-check .ensures) ∙ c .before .before .before .before .enum-told .given .1) .valid .some-node)
 
 walk-requires : tie.Need-walk-requires
 walk-requires c κs =

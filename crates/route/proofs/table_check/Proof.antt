@@ -4,7 +4,8 @@ use mathlib.Core.List.{List, [], _∷_}
 use lib.ListN.{length}
 use borrow.Author.Needs.{needs}
 use Rattle.model.specs.declared.Check.{Check}
-use Rattle.checks.specs.Checks.{startsCheck, headsCheck, lentCheck}
+use Rattle.check_numbers.specs.Numbers.{lentCheck}
+use Rattle.check_lists.specs.Lists.{startsCheck, headsCheck}
 use Rattle.checks.proofs.Order.{Made, AllPass, passed-all, all-passed, one, both, stopped, gone-on}
 use Rattle.route.specs.Routes.{tableSizeChecks, tableChecks}
 use Rattle.route.proofs.Checking.{sizes-pass}

@@ -1,6 +1,7 @@
 -- `reader::checking::arc_check` meets its contract: the tests are made in order. Assumes nothing.
 use borrow.Author.Tests.{lt-leb, le-leb, lt-ltb, le-ltb}
-use Rattle.checks.specs.Checks.{faultIf, firstFault}
+use Rattle.check_numbers.specs.Numbers.{faultIf}
+use Rattle.checks.specs.Checks.{firstFault}
 use Rattle.reader.specs.Checking.{arcChecks}
 use Rattle.reader.proofs.checking.arc_check.Statement.{statement}
 use Rattle.reader.proofs.checking.arc_check.Tie as tie

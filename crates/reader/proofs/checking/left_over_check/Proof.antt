@@ -3,7 +3,7 @@ use native.Mathlib.Omega.{arith}
 use lib.ListN.{length, drop}
 use borrow.Author.Needs.{needs}
 use borrow.Author.Tests.{lt-ltb, le-ltb}
-use Rattle.checks.specs.Checks.{faultIf}
+use Rattle.check_numbers.specs.Numbers.{faultIf}
 use Rattle.reader.proofs.checking.left_over_check.Statement.{statement}
 use Rattle.reader.proofs.checking.left_over_check.Tie as tie
 

@@ -1,0 +1,14 @@
+-- `answer_words::run_words` meets its contract. Assumes nothing.
+use mathlib.Core.Path.{refl}
+use borrow.Author.Needs.{needs}
+use Rattle.answer_words.proofs.run_words.Statement.{statement}
+use Rattle.answer_words.proofs.run_words.Tie as tie
+
+returns : tie.Need-returns
+returns c = rw (c .before .answer .given .1) refl
+
+returns-2 : tie.Need-returns-2
+returns-2 c = rw (c .before .answer2 .given .1) refl
+
+pub run-words-spec : {M : Type 1} → statement M
+run-words-spec = tie.close (tie.spec (λ c. search needs) (λ c. search needs) (λ c. search needs) (λ c. search needs) (λ c. search needs) (λ c. search needs) (λ c. search needs) (λ c. search needs) returns returns-2)

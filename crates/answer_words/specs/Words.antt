@@ -1,0 +1,21 @@
+-- The numbers of each answer as words (document 01, "What a call returns").
+use Prim.Native.Nat.{ℕ}
+use mathlib.Core.List.{List, [], _∷_}
+use Rattle.model.specs.Answers.{Numbers}
+use Rattle.route.specs.Routes.{RouteNumbers}
+use Rattle.reader.specs.Promise.{PlanNumbers}
+
+-- Number and place, then r, B, decreases, placements and looks (document 01, "What the planner holds and leaves out" and "What a call
+-- returns").
+abbrev pub runWords : Numbers → List ℕ
+runWords numbers =
+    numbers .returned ∷ numbers .place ∷ numbers .reached ∷ numbers .buckets ∷ numbers .decreases ∷ numbers .placements ∷ numbers .looks ∷ []
+
+-- Number and place, then the number of nodes of the route (document 01, "Routes" and "What a call returns").
+abbrev pub routeWords : RouteNumbers → List ℕ
+routeWords numbers = numbers .returned ∷ numbers .place ∷ numbers .nodes ∷ []
+
+-- Number and place, then line 1's five numbers (document 01, "Planning file" and "What a call returns").
+abbrev pub readWords : PlanNumbers → List ℕ
+readWords numbers =
+    numbers .returned ∷ numbers .place ∷ numbers .nodes ∷ numbers .arcs ∷ numbers .ceiling ∷ numbers .source ∷ numbers .segments ∷ []

@@ -1,0 +1,4 @@
+pub mod Least
+pub mod Start
+pub mod Tests
+pub mod Words

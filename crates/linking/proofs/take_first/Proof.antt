@@ -1,0 +1,81 @@
+-- `linking::take_first` meets its contract: the head word tells, and is the one that points to the node. Assumes nothing.
+use Prim.Native.Nat.{ℕ, suc, _+_, _*_, _-_, _≤_}
+use native.Mathlib.Omega.{arith}
+use mathlib.Core.Path.{_≡_, refl, sym, _∙_}
+use mathlib.Core.List.{List}
+use lib.ListN.{getD}
+use Rattle.buckets.specs.Words.{placeBucket, places}
+use Rattle.buckets.specs.Answer.{InSlot}
+use Rattle.buckets.specs.Links.Count.{take-ready, take-before, take-moved}
+use Rattle.buckets.specs.Links.Walk.{head-le, first-none, first-some, first-home, first-held, first-bucket}
+use borrow.Author.Needs.{needs}
+use Rattle.linking.proofs.take_first.Statement.{statement}
+use Rattle.linking.proofs.take_first.Tie as tie
+
+-- the slot is not empty
+module _ (d : tie.Start) (some : getD (d .args .words .now) (4 * d .args .n + 32 + d .args .slot) 0 ≡ 0 → ⊥) where
+  abbrev words : List ℕ
+  words = d .args .words .now
+
+  abbrev v : ℕ
+  v = getD words (4 * d .args .n + 32 + d .args .slot) 0 - 1
+
+  is : getD words (4 * d .args .n + 32 + d .args .slot) 0 ≡ suc v
+  is = omega arith
+
+  in-slot : InSlot (d .args .n) (d .args .segments) (d .args .slot) words v
+  in-slot = first-some (d .pre .0) (d .args .slot) (d .pre .1 .0) v is
+
+  held : 512 ≤ getD (places (d .args .n) words) v 0
+  held = first-held (d .pre .0) (d .args .slot) (d .pre .1 .0) v in-slot
+
+  bucket : d .args .bucket ≡ placeBucket (getD words (2 * d .args .n + v) 0)
+  bucket = d .pre .1 .1 ∙ sym (first-bucket (d .pre .0) (d .args .slot) (d .pre .1 .0) v in-slot)
+
+  home : getD words (d .args .n + v) 0 ≡ 4 * d .args .n + 32 + d .args .slot
+  home = first-home (d .pre .0) (d .args .slot) (d .pre .1 .0) v is
+
+returns : tie.Need-returns
+returns c = let d = c .before .before .before in (first-none (d .pre .0) (d .args .slot) (d .pre .1 .0) (omega arith), refl)
+
+cast-v : tie.Need-cast-v
+cast-v c = let d = c .before .before .before in omega (arith, head-le (d .pre .0) (d .args .slot) (d .pre .1 .0))
+
+count-out-requires : tie.Need-count-out-requires
+count-out-requires c κs = let d = c .before .before .before .before in let k = c .before .if1 .left in (d .pre .0, ((in-slot d k .0, bucket d k), held d k))
+
+unlink-requires : tie.Need-unlink-requires
+unlink-requires c κs =
+    let d = c .before .before .before .before .before .before .before .before in
+    let k = c .before .before .before .before .before .if1 .left in
+    let e = rw (bucket d k) at (c .before .before .before .count-out .ensures) in
+    let r = take-ready (d .pre .0) (v d k) (in-slot d k .0) (held d k) e in
+    (r .0, (r .1, ((in-slot d k .0, sym (home d k) ∙ sym (take-before (d .pre .0) (v d k) (in-slot d k .0) (held d k) e)), r .2)))
+
+cast-found : tie.Need-cast-t13
+cast-found c = let d = c .before .before .before .before .before .before .before .before .before .before .before in omega (arith, head-le (d .pre .0) (d .args .slot) (d .pre .1 .0), d .pre .0 .fits .small)
+
+returns-2 : tie.Need-returns-2
+returns-2 c =
+    let d = c .before .before .before .before .before .before .before .before .before .before .before in
+    let k = c .before .before .before .before .before .before .before .before .if1 .left in
+    let e = rw (bucket d k) at (c .before .before .before .before .before .before .count-out .ensures) in
+    (in-slot d k, take-moved (d .pre .0) (v d k) (in-slot d k .0) (held d k) e (c .before .before .unlink .ensures))
+
+pub take-first-spec : {M : Type 1} → statement M
+take-first-spec =
+    tie.close
+    (tie.spec
+    (λ c. search needs)
+    (λ c. search needs)
+    (λ c. search needs)
+    (λ c. search needs)
+    (λ c. search needs)
+    returns
+    cast-v
+    (λ c. search needs)
+    count-out-requires
+    unlink-requires
+    cast-found
+    (λ c. search needs)
+    returns-2)

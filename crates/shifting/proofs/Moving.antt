@@ -1,0 +1,237 @@
+-- A node of the segment that is used is moved; and all of them, one after the other.
+use Prim.Native.Nat.{ℕ, suc, _+_, _-_, _*_, _≤_, _<_}
+use native.Mathlib.Omega.{arith}
+use mathlib.Core.Path.{_≡_, refl, sym, _∙_, ap, subst}
+use mathlib.Core.Bool.{Bool, true, false, cond}
+use mathlib.Core.Logic.{_≢_, _⊎_, inl, inr, ⊎-elim}
+use mathlib.Core.List.{List}
+use lib.Dec.{ltb}
+use lib.ListN.{length, getD}
+use lib.Seq.{getD-drop}
+use Rattle.theory.specs.Sums.{sumBelow}
+use Rattle.theory.specs.Heap.{bound}
+use Rattle.theory.proofs.Cases.{same?}
+use Rattle.theory.proofs.Sums.{sum-change, sum-mono, sum-ones, sum-zero}
+use Rattle.bounds.specs.Words.{boundsOf}
+use Rattle.buckets.specs.Words.{places, placeWord}
+use Rattle.buckets.specs.Answer.{InSlot, None}
+use Rattle.buckets.specs.declared.Found.{Found}
+use Rattle.buckets.specs.declared.Found.the-variants.{At, Nothing}
+use Rattle.model.specs.declared.Node.{Node}
+use Rattle.frontier.specs.Frontier.{Frontier, Placed, FirstLeft}
+use Rattle.frontier.specs.Frontier.Laws.{placed-again, placed-here, placed-other}
+use Rattle.state.specs.declared.Layout.{Layout}
+use Rattle.state.specs.declared.State.{State}
+use Rattle.state.specs.declared.Tally.{Tally}
+use Rattle.state.specs.Places.{isWord}
+use Rattle.state.specs.Slots.{slotOf, slotWord, keyWord, Enters}
+use Rattle.state.proofs.Slots.{same-word, same-enters}
+use Rattle.state.proofs.Find.{isWord-low, isWord-same, isWord-other}
+use Rattle.placing.specs.Placing.{Formed}
+use Rattle.shifting.specs.Moving.{shiftsOf, ShiftedFrom, movedWord, Settles, Settled, inSlot, atCurrent, Distributes, Distributed}
+
+-- The key of node v can be placed (document 01, "One-level heap").
+pub record Moves (layout : Layout) (sizes words distances : List ℕ) (s : State) (bucket v : ℕ) : Type 0 where
+  pub formed : Formed layout sizes
+  pub frontier : Frontier (layout .nodes) (layout .slots) (layout .segments) words
+  pub node : v < layout .nodes
+  pub long : layout .nodes ≤ length distances
+  pub enters : Enters (layout .buckets) (layout .segments) sizes (boundsOf (layout .nodes) words) (s .front) (getD distances v 0) bucket
+  pub current-few : s .current ≤ 4096
+  pub shifts-few : s .tally .shifts < 4294967295
+
+-- Node v has moved (document 01, "One-level heap").
+pub record Moved (layout : Layout) (sizes words words′ distances : List ℕ) (s s′ : State) (bucket v : ℕ) : Type 0 where
+  pub placed : Placed (layout .nodes) (layout .slots) (layout .segments) words words′ v (movedWord layout sizes words distances (s .front) bucket v)
+  pub front : s′ .front ≡ s .front
+  pub current : s′ .current ≡ s .current + isWord 1 (movedWord layout sizes words distances (s .front) bucket v)
+  pub reached : s′ .reached ≡ s .reached
+  pub tally : ShiftedFrom (s .tally) (s′ .tally) bucket
+
+-- The bounds are as they were after a change of a place word.
+pub bounds-same : {n slots K B : ℕ} {w w′ : List ℕ} {v x : ℕ} → B ≤ 22 → Placed n slots K w w′ v x → (i : ℕ) → 1 ≤ i → i ≤ B → bound (boundsOf n w) i ≡ bound (boundsOf n w′) i
+bounds-same {n} {w = w} {w′ = w′} few P i low high = getD-drop (4 * n) w i 0 ∙ sym (P .bounds i (omega arith)) ∙ sym (getD-drop (4 * n) w′ i 0)
+
+module _ {layout : Layout} {sizes words distances : List ℕ} {s : State} {bucket v : ℕ} (M : Moves layout sizes words distances s bucket v) {w₁ : List ℕ}
+    (P : Placed (layout .nodes) (layout .slots) (layout .segments) words w₁ v 0) where
+  pub settles : Settles layout sizes w₁ distances s bucket v
+  settles = record {
+    entering = record {
+      formed = M .formed;
+      frontier = P .frontier;
+      node = M .node;
+      unlabelled = placed-here (M .frontier) P (M .node);
+      enters = same-enters (M .enters) (boundsOf (layout .nodes) w₁) (bounds-same (M .formed .sized .few) P);
+    };
+    long = M .long;
+    current-few = M .current-few;
+    shifts-few = M .shifts-few;
+  }
+
+  pub moved : {w₂ : List ℕ} {s′ : State} → Settled layout sizes w₁ w₂ distances s s′ bucket v → Moved layout sizes words w₂ distances s s′ bucket v
+  moved S =
+      let e = same-word (M .enters) (boundsOf (layout .nodes) w₁) (bounds-same (M .formed .sized .few) P) in
+      record {
+        placed = rw e (placed-again P (S .entered .placed));
+        front = S .front;
+        current = S .current ∙ ap (λ (k : ℕ). s .current + k) (S .entered .counted ∙ ap (isWord 1) (sym e));
+        reached = S .reached;
+        tally = S .tally;
+      }
+
+-- What was found at the head of a slot.
+pub left-empty : (n slots K slot : ℕ) (w w′ : List ℕ) (f : Found) → FirstLeft n slots K slot w w′ f → f ≡ Nothing → None (InSlot n K slot w) × (w′ ≡ w)
+left-empty n slots K slot w w′ f left e = subst (λ (f : Found). FirstLeft n slots K slot w w′ f) e left
+
+pub left-held : (n slots K slot : ℕ) (w w′ : List ℕ) (f : Found) {v : Node} → FirstLeft n slots K slot w w′ f → f ≡ At v
+    → InSlot n K slot w (v .0) × Placed n slots K w w′ (v .0) 0
+left-held n slots K slot w w′ f left e = subst (λ (f : Found). FirstLeft n slots K slot w w′ f) e left
+
+-- Some of the slot's nodes have moved.
+pub record Distributing (layout : Layout) (sizes words₀ distances : List ℕ) (s₀ : State) (bucket slot : ℕ) (words : List ℕ) (s : State) : Type 0 where
+  pub frontier : Frontier (layout .nodes) (layout .slots) (layout .segments) words
+  pub each : (w : ℕ) → w < layout .nodes → (getD (places (layout .nodes) words) w 0 ≡ getD (places (layout .nodes) words₀) w 0)
+      ⊎ ((getD (places (layout .nodes) words₀) w 0 ≡ placeWord (layout .segments) slot) × (getD (places (layout .nodes) words) w 0 ≡ movedWord layout sizes words₀ distances (s₀ .front) bucket w))
+  pub bounds : (i : ℕ) → i < 24 → getD words (4 * layout .nodes + i) 0 ≡ getD words₀ (4 * layout .nodes + i) 0
+  pub same-length : length words ≡ length words₀
+  pub front : s .front ≡ s₀ .front
+  pub current : s .current ≡ atCurrent layout words
+  pub reached : s .reached ≡ s₀ .reached
+  pub insertions : s .tally .insertions ≡ s₀ .tally .insertions
+  pub decreases : s .tally .decreases ≡ s₀ .tally .decreases
+  pub shifts : s .tally .shifts + shiftsOf bucket (inSlot layout words slot) ≡ s₀ .tally .shifts + shiftsOf bucket (inSlot layout words₀ slot)
+  pub looks : s .tally .looks ≡ s₀ .tally .looks
+
+shifts-next : (bucket a c : ℕ) → shiftsOf bucket (suc a) + c ≡ shiftsOf bucket a + (c + shiftsOf bucket 1)
+shifts-next bucket a c = go (ltb 1 bucket)
+  where
+    go : (t : Bool) → cond t (suc a) 0 + c ≡ cond t a 0 + (c + cond t 1 0)
+    go true = omega arith
+    go false = omega arith
+
+shifts-low : (bucket a : ℕ) → shiftsOf bucket a ≤ a
+shifts-low bucket a = go (ltb 1 bucket)
+  where
+    go : (t : Bool) → cond t a 0 ≤ a
+    go true = omega arith
+    go false = omega arith
+
+count-low : (n c : ℕ) (word : ℕ → ℕ) → sumBelow n (λ w. isWord c (word w)) ≤ n
+count-low n c word = omega (arith, sum-mono n (λ w. isWord c (word w)) (λ w. 1) (λ w _. isWord-low c (word w)), sum-ones n)
+
+module _ {layout : Layout} {sizes words₀ distances : List ℕ} {s₀ : State} {bucket slot : ℕ} (Q : Distributes layout sizes words₀ distances s₀ bucket slot) where
+  abbrev n : ℕ
+  n = layout .nodes
+
+  abbrev from : ℕ
+  from = placeWord (layout .segments) slot
+
+  pub distributing-start : Distributing layout sizes words₀ distances s₀ bucket slot words₀ s₀
+  distributing-start = record {
+    frontier = Q .frontier;
+    each = λ w l. inl refl;
+    bounds = λ i l. refl;
+    same-length = refl;
+    front = refl;
+    current = Q .current;
+    reached = refl;
+    insertions = refl;
+    decreases = refl;
+    shifts = refl;
+    looks = refl;
+  }
+
+  module _ {words : List ℕ} {s : State} (P : Distributing layout sizes words₀ distances s₀ bucket slot words s) where
+    abbrev place : ℕ → ℕ
+    place w = getD (places n words) w 0
+
+    -- A node that still has the slot's word had it at first.
+    first-word : (w : ℕ) → w < n → place w ≡ from → getD (places n words₀) w 0 ≡ from
+    first-word w l e = ⊎-elim (λ q. sym q ∙ e) (λ q. q .0) (P .each w l)
+
+    bounds-from : (i : ℕ) → 1 ≤ i → i ≤ layout .buckets → bound (boundsOf n words₀) i ≡ bound (boundsOf n words) i
+    bounds-from i low high = getD-drop (4 * n) words₀ i 0 ∙ sym (P .bounds i (omega (arith, Q .formed .sized .few))) ∙ sym (getD-drop (4 * n) words i 0)
+
+    same-moved : (w : ℕ) → w < n → place w ≡ from → movedWord layout sizes words₀ distances (s₀ .front) bucket w ≡ movedWord layout sizes words distances (s .front) bucket w
+    same-moved w l e = same-word (Q .enters w l (first-word w l e)) (boundsOf n words) bounds-from
+        ∙ ap (λ (f : ℕ). keyWord (layout .buckets) (layout .segments) sizes (boundsOf n words) f (getD distances w 0) bucket) (sym (P .front))
+
+    pub distributing-moves : (v : ℕ) → v < n → place v ≡ from → Moves layout sizes words distances s bucket v
+    distributing-moves v l e = record {
+      formed = Q .formed;
+      frontier = P .frontier;
+      node = l;
+      long = Q .long;
+      enters = rw (P .front) (same-enters (Q .enters v l (first-word v l e)) (boundsOf n words) bounds-from);
+      current-few = omega (arith, P .current, count-low n 1 place, Q .frontier .few);
+      shifts-few = omega (arith, P .shifts, Q .shifts-few, shifts-low bucket (inSlot layout words₀ slot), count-low n from (λ w. getD (places n words₀) w 0));
+    }
+
+    module _ {v : ℕ} (l : v < n) (e : place v ≡ from) {words′ : List ℕ} {s′ : State} (M : Moved layout sizes words words′ distances s s′ bucket v) where
+      word : ℕ
+      word = movedWord layout sizes words distances (s .front) bucket v
+
+      here : getD (places n words′) v 0 ≡ movedWord layout sizes words₀ distances (s₀ .front) bucket v
+      here = placed-here (P .frontier) (M .placed) l ∙ sym (same-moved v l e)
+
+      there : (w : ℕ) → w ≢ v → getD (places n words′) w 0 ≡ place w
+      there w q = placed-other (P .frontier) (M .placed) w q
+
+      new-apart : getD (places n words′) v 0 ≢ from
+      new-apart q = Q .apart v l (first-word v l e) (sym here ∙ q)
+
+      count : (c : ℕ) → sumBelow n (λ w. isWord c (getD (places n words′) w 0)) + isWord c from ≡ sumBelow n (λ w. isWord c (place w)) + isWord c (getD (places n words′) v 0)
+      count c = ap (λ (x : ℕ). sumBelow n (λ w. isWord c (getD (places n words′) w 0)) + isWord c x) (sym e)
+          ∙ sum-change n v (λ w. isWord c (place w)) (λ w. isWord c (getD (places n words′) w 0)) l (λ w q. ap (isWord c) (there w q))
+
+      one-fewer : inSlot layout words slot ≡ suc (inSlot layout words′ slot)
+      one-fewer = omega (arith, count from, isWord-same from, isWord-other from (getD (places n words′) v 0) new-apart)
+
+      pub distributing-next : Distributing layout sizes words₀ distances s₀ bucket slot words′ s′ × (inSlot layout words′ slot < inSlot layout words slot)
+      distributing-next = (
+        record {
+          frontier = M .placed .frontier;
+          each = λ w low. ⊎-elim
+              (λ q. rw q (inr (first-word v l e, here)))
+              (λ q. ⊎-elim (λ z. inl (there w q ∙ z)) (λ z. inr (z .0, there w q ∙ z .1)) (P .each w low))
+              (same? w v);
+          bounds = λ i low. M .placed .bounds i low ∙ P .bounds i low;
+          same-length = M .placed .same-length ∙ P .same-length;
+          front = M .front ∙ P .front;
+          current = omega (arith, M .current, P .current, count 1, isWord-other 1 from (omega arith), ap (isWord 1) (placed-here (P .frontier) (M .placed) l));
+          reached = M .reached ∙ P .reached;
+          insertions = M .tally .insertions ∙ P .insertions;
+          decreases = M .tally .decreases ∙ P .decreases;
+          shifts = omega (arith, P .shifts, M .tally .shifts, shifts-next bucket (inSlot layout words′ slot) (s .tally .shifts), ap (shiftsOf bucket) one-fewer);
+          looks = M .tally .looks ∙ P .looks;
+        },
+        omega (arith, one-fewer),
+      )
+
+    -- A node that has left the slot can be placed; once it is, one node fewer is to be moved.
+    module _ {v : ℕ} {w₁ : List ℕ} (H : InSlot n (layout .segments) slot words v × Placed n (layout .slots) (layout .segments) words w₁ v 0) where
+      pub distribute-settles : Settles layout sizes w₁ distances s bucket v
+      distribute-settles = settles (distributing-moves v (H .0 .0) (H .0 .1)) (H .1)
+
+      pub distribute-next : {w₂ : List ℕ} {s′ : State} → Settled layout sizes w₁ w₂ distances s s′ bucket v
+          → Distributing layout sizes words₀ distances s₀ bucket slot w₂ s′ × (inSlot layout w₂ slot < inSlot layout words slot)
+      distribute-next S = distributing-next (H .0 .0) (H .0 .1) (moved (distributing-moves v (H .0 .0) (H .0 .1)) (H .1) S)
+
+    pub distributing-end : ((w : ℕ) → (w < n) × (place w ≡ from) → ⊥) → Distributed layout sizes words₀ words distances s₀ s bucket slot
+    distributing-end none = record {
+      frontier = P .frontier;
+      moved = λ w l e. ⊎-elim (λ q. absurd (none w (l, q ∙ e))) (λ q. q .1) (P .each w l);
+      kept = λ w l e. ⊎-elim (λ q. q) (λ q. absurd (e (q .0))) (P .each w l);
+      bounds = P .bounds;
+      same-length = P .same-length;
+      front = P .front;
+      current = P .current;
+      reached = P .reached;
+      insertions = P .insertions;
+      decreases = P .decreases;
+      shifts = omega (arith, P .shifts, ap (shiftsOf bucket) zero-left, shifts-low bucket 0);
+      looks = P .looks;
+    }
+      where
+        zero-left : inSlot layout words slot ≡ 0
+        zero-left = sum-zero n (λ w. isWord from (place w)) (λ w l. isWord-other from (place w) (λ e. none w (l, e)))

@@ -1,0 +1,89 @@
+-- The nodes of the segment that is used, and where they go.
+use Prim.Native.Nat.{ℕ, _+_, _-_, _*_, _≤_, _<_}
+use mathlib.Core.Path.{_≡_}
+use mathlib.Core.Logic.{_≢_}
+use mathlib.Core.Bool.{cond}
+use mathlib.Core.List.{List}
+use lib.Dec.{ltb}
+use lib.ListN.{length, getD}
+use Rattle.theory.specs.Sums.{sumBelow}
+use Rattle.bounds.specs.Words.{boundsOf}
+use Rattle.buckets.specs.Words.{places, placeWord, bucketOf}
+use Rattle.frontier.specs.Frontier.{Frontier}
+use Rattle.state.specs.declared.Layout.{Layout}
+use Rattle.state.specs.declared.State.{State}
+use Rattle.state.specs.declared.Tally.{Tally}
+use Rattle.state.specs.Places.{isWord}
+use Rattle.state.specs.Slots.{slotOf, slotWord, keyWord, SlotFits, Enters}
+use Rattle.placing.specs.Placing.{Formed, Entering, Entered}
+
+-- A shift is counted from a bucket above 1 (document 01, "One-level heap": if j = 1 the node is scanned, and none is shifted).
+abbrev pub shiftsOf : (bucket moved : ℕ) → ℕ
+shiftsOf bucket moved = cond (ltb 1 bucket) moved 0
+
+-- The tally with one move from a bucket counted (document 01, "The tallies").
+pub record ShiftedFrom (t t′ : Tally) (bucket : ℕ) : Type 0 where
+  pub insertions : t′ .insertions ≡ t .insertions
+  pub decreases : t′ .decreases ≡ t .decreases
+  pub shifts : t′ .shifts ≡ t .shifts + shiftsOf bucket 1
+  pub looks : t′ .looks ≡ t .looks
+
+-- The word that node v is given: that of its key, searched for from the bucket it leaves (document 01, "One-level heap").
+abbrev pub movedWord : (layout : Layout) → (sizes words distances : List ℕ) → (front bucket v : ℕ) → ℕ
+movedWord layout sizes words distances front bucket v =
+    keyWord (layout .buckets) (layout .segments) sizes (boundsOf (layout .nodes) words) front (getD distances v 0) bucket
+
+-- Node v has left its slot, and its key can be placed (document 01, "One-level heap").
+pub record Settles (layout : Layout) (sizes words distances : List ℕ) (s : State) (bucket v : ℕ) : Type 0 where
+  pub entering : Entering layout sizes words (s .front) v (getD distances v 0) bucket
+  pub long : layout .nodes ≤ length distances
+  pub current-few : s .current ≤ 4096
+  pub shifts-few : s .tally .shifts < 4294967295
+
+-- Node v is placed by its key, and the move is counted (document 01, "One-level heap" and "The tallies").
+pub record Settled (layout : Layout) (sizes words words′ distances : List ℕ) (s s′ : State) (bucket v : ℕ) : Type 0 where
+  pub counted : ℕ
+  pub entered : Entered layout sizes words words′ (s .front) v (getD distances v 0) bucket counted
+  pub front : s′ .front ≡ s .front
+  pub current : s′ .current ≡ s .current + counted
+  pub reached : s′ .reached ≡ s .reached
+  pub tally : ShiftedFrom (s .tally) (s′ .tally) bucket
+
+-- The nodes that have the word of a slot (document 01, "Two-level heap").
+abbrev pub inSlot : (layout : Layout) → (words : List ℕ) → (slot : ℕ) → ℕ
+inSlot layout words slot = sumBelow (layout .nodes) (λ w. isWord (placeWord (layout .segments) slot) (getD (places (layout .nodes) words) w 0))
+
+-- The nodes at the current key (document 01, "The search").
+abbrev pub atCurrent : (layout : Layout) → (words : List ℕ) → ℕ
+atCurrent layout words = sumBelow (layout .nodes) (λ w. isWord 1 (getD (places (layout .nodes) words) w 0))
+
+-- Every node of a slot can be moved out of it (document 01, "Two-level heap").
+pub record Distributes (layout : Layout) (sizes words distances : List ℕ) (s : State) (bucket slot : ℕ) : Type 0 where
+  pub formed : Formed layout sizes
+  pub frontier : Frontier (layout .nodes) (layout .slots) (layout .segments) words
+  pub below : slot < layout .slots
+  pub within : bucket ≡ bucketOf (layout .segments) slot
+  pub long : layout .nodes ≤ length distances
+  pub enters : (w : ℕ) → w < layout .nodes → getD (places (layout .nodes) words) w 0 ≡ placeWord (layout .segments) slot
+      → Enters (layout .buckets) (layout .segments) sizes (boundsOf (layout .nodes) words) (s .front) (getD distances w 0) bucket
+  pub apart : (w : ℕ) → w < layout .nodes → getD (places (layout .nodes) words) w 0 ≡ placeWord (layout .segments) slot
+      → movedWord layout sizes words distances (s .front) bucket w ≢ placeWord (layout .segments) slot
+  pub current : s .current ≡ atCurrent layout words
+  pub shifts-few : s .tally .shifts + layout .nodes < 4294967295
+
+-- Every node of the slot has moved, and no other (document 01, "Two-level heap").
+pub record Distributed (layout : Layout) (sizes words words′ distances : List ℕ) (s s′ : State) (bucket slot : ℕ) : Type 0 where
+  pub frontier : Frontier (layout .nodes) (layout .slots) (layout .segments) words′
+  pub moved : (w : ℕ) → w < layout .nodes → getD (places (layout .nodes) words) w 0 ≡ placeWord (layout .segments) slot
+      → getD (places (layout .nodes) words′) w 0 ≡ movedWord layout sizes words distances (s .front) bucket w
+  pub kept : (w : ℕ) → w < layout .nodes → getD (places (layout .nodes) words) w 0 ≢ placeWord (layout .segments) slot
+      → getD (places (layout .nodes) words′) w 0 ≡ getD (places (layout .nodes) words) w 0
+  pub bounds : (i : ℕ) → i < 24 → getD words′ (4 * layout .nodes + i) 0 ≡ getD words (4 * layout .nodes + i) 0
+  pub same-length : length words′ ≡ length words
+  pub front : s′ .front ≡ s .front
+  pub current : s′ .current ≡ atCurrent layout words′
+  pub reached : s′ .reached ≡ s .reached
+  pub insertions : s′ .tally .insertions ≡ s .tally .insertions
+  pub decreases : s′ .tally .decreases ≡ s .tally .decreases
+  pub shifts : s′ .tally .shifts ≡ s .tally .shifts + shiftsOf bucket (inSlot layout words slot)
+  pub looks : s′ .tally .looks ≡ s .tally .looks

@@ -1,0 +1,97 @@
+// The new bounds of a removal, and the shifts of the nodes of the segment that it uses (document 01, "One-level heap", "Two-level heap" and
+// "The tallies").
+use buckets::Found;
+use model::Node;
+use state::Layout;
+use state::State;
+use state::Tally;
+ghost use mathlib.Core.Path.{_≡_};
+ghost use Prim.Native.Nat.{_<_};
+ghost use Rattle.shifting.specs.Renewing.{Renews, renewed};
+ghost use Rattle.shifting.specs.Moving.{Settles, Settled, ShiftedFrom, Distributes, Distributed};
+
+// The bounds below the bucket that is used are set anew. Below bucket 1 there are none.
+pub fn renew_bounds(
+    words: &mut [u32],
+    sizes: &[u32],
+    layout: Layout,
+    bucket: usize,
+    segment: usize,
+    key: u32,
+)
+    requires { ⌜ Renews layout (now sizes) (now words) bucket segment key ⌝ }
+    ensures { λ _. ⌜ now (words .exit) ≡ renewed layout (now (sizes .entry)) (now (words .entry)) bucket segment key ⌝ }
+{
+    let n = layout.nodes;
+    let bound = words[4 * n + bucket];
+    let end = bounds::segment_end(
+        sizes,
+        layout.segments,
+        layout.buckets,
+        bucket,
+        bound,
+        segment,
+    );
+    bounds::set_bounds(words, n, sizes, end, key - 1, 1, bucket);
+}
+
+// From a bucket above 1 a move is a shift.
+fn shifted_from(tally: Tally, bucket: usize) -> Tally
+    requires { ⌜ tally .shifts < 4294967295 ⌝ }
+    ensures { λ r. ⌜ ShiftedFrom tally r bucket ⌝ }
+{
+    if 1 < bucket {
+        return tally.shifted();
+    }
+    tally
+}
+
+// A node of the segment that is used, which has left its slot, goes where its key belongs.
+fn move_node(
+    words: &mut [u32],
+    distances: &[u32],
+    sizes: &[u32],
+    layout: Layout,
+    state: State,
+    bucket: usize,
+    v: Node,
+) -> State
+    requires { ⌜ Settles layout (now sizes) (now words) (now distances) state bucket (v .0) ⌝ }
+    ensures { λ r. ⌜ Settled layout (now (sizes .entry)) (now (words .entry)) (now (words .exit)) (now (distances .entry)) state r bucket (v .0) ⌝ }
+{
+    let at = v.0 as usize;
+    let key = distances[at];
+    let current = placing::enter(words, sizes, layout, state.front, v, key, bucket);
+    State {
+        front: state.front,
+        current: state.current + current,
+        reached: state.reached,
+        tally: shifted_from(state.tally, bucket),
+    }
+}
+
+// The nodes of a slot of a bucket are distributed: every one goes where its key belongs.
+pub fn distribute(
+    words: &mut [u32],
+    distances: &[u32],
+    sizes: &[u32],
+    layout: Layout,
+    state: State,
+    bucket: usize,
+    slot: usize,
+) -> State
+    requires { ⌜ Distributes layout (now sizes) (now words) (now distances) state bucket slot ⌝ }
+    ensures { λ r. ⌜ Distributed layout (now (sizes .entry)) (now (words .entry)) (now (words .exit)) (now (distances .entry)) state r bucket slot ⌝ }
+{
+    let n = layout.nodes;
+    let slots = layout.slots;
+    let segments = layout.segments;
+    let mut moved = state;
+    loop {
+        let found = frontier::take_first(words, n, slots, segments, bucket, slot);
+        let Found::At(v) = found else {
+            return moved;
+        };
+        moved = move_node(words, distances, sizes, layout, moved, bucket, v);
+    }
+}

@@ -1,0 +1,7 @@
+// What the trials share: generated maps, cases at the edge of every refusal, lists full of junk, and tallies of what was found.
+pub mod case;
+pub mod edges;
+pub mod lists;
+pub mod maps;
+pub mod random;
+pub mod tallies;

@@ -1,0 +1,42 @@
+// How many cases of each refusal there were, and the differences found in them; number 0 is for those accepted at an edge.
+use test_reference_map::nodes;
+use test_reference_map::nodes::Table;
+
+// The rows of the table that have the cases of each number and the differences of each.
+const CASES: u64 = 0;
+
+const DIFFERENCES: u64 = 1;
+
+// What a case is refused for, 0 for nothing, and the differences found in it.
+pub struct Found {
+    pub number: u64,
+    pub differences: u64,
+}
+
+// A case is counted under its number; its differences.
+pub fn count(tallies: &mut Table, found: Found) -> u64 {
+    nodes::add(tallies, CASES, found.number, 1);
+    nodes::add(tallies, DIFFERENCES, found.number, found.differences);
+    found.differences
+}
+
+// What stands behind a name: how many cases it has, and the differences in them.
+pub fn print_found(cases: u64, differences: u64) {
+    io::write_all(1, b",");
+    io::print_decimal(1, cases);
+    io::write_all(1, b",");
+    io::print_decimal(1, differences);
+    io::write_all(1, b"\n");
+}
+
+// A line for each number.
+pub fn print(tallies: &Table) {
+    let mut number = 0;
+    while number < 18 {
+        io::write_all(1, b"returned ");
+        io::print_decimal(1, number);
+        let cases = nodes::get(tallies, CASES, number);
+        print_found(cases, nodes::get(tallies, DIFFERENCES, number));
+        number += 1;
+    }
+}

@@ -1,0 +1,3 @@
+// A plain reference for what both heaps count (document 01, "The tallies"): their formulas, and a recount of their steps.
+pub mod heap;
+pub mod recount;

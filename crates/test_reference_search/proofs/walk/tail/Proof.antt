@@ -1,0 +1,25 @@
+-- `test_reference_search::walk::tail` meets its contract. The measure: the nodes left.
+use Prim.Native.Nat.{_-_}
+use borrow.Author.Needs.{needs}
+use Rattle.test_reference_search.proofs.walk.tail.Statement.{statement}
+use Rattle.test_reference_search.proofs.walk.tail.Tie as tie
+
+abbrev Inv-loop : tie.InvT-loop
+Inv-loop n lists arc v₀ v = Unit
+
+abbrev μ-loop : tie.MeasureT-loop
+μ-loop n lists arc v₀ v = n - v
+
+pub tail-spec : {M : Type 1} → statement M
+tail-spec =
+    tie.close
+    (tie.spec
+    Inv-loop
+    μ-loop
+    (λ c. search needs)
+    (λ c κs. search needs)
+    (λ c. search needs)
+    (λ c. search needs)
+    (λ c. search needs)
+    (λ c. search needs)
+    (λ c. search needs))

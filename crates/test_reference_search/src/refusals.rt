@@ -1,0 +1,141 @@
+// What a call is refused for, in the order of document 01, "What a call returns". A run has one level or two; a route, which is lent no
+// costs and of the lists by node the parents alone, is refused as a run of no level.
+use test_reference_map::case::Case;
+use test_reference_map::map;
+use test_reference_map::map::Lists;
+use test_reference_map::refusal::Refusal;
+use test_reference_map::refusal::refuse;
+use test_reference_map::words;
+
+// 6: the word of starts at i does not fit.
+fn start_fault(n: u64, m: u64, lists: &Lists, i: u64) -> bool {
+    let start = map::start(lists, i);
+    let before = map::start(lists, words::minus(i, 1));
+    let first = (i == 0) & (start != 0);
+    let last = (i == n) & (start != m);
+    first | last | (start < before) | (start > m)
+}
+
+// The least such index, or n + 1.
+fn first_start_fault(n: u64, m: u64, lists: &Lists) -> u64 {
+    let end = words::sum(n, 1);
+    let mut i = 0;
+    while i < end {
+        if start_fault(n, m, lists, i) {
+            return i;
+        }
+        i += 1;
+    }
+    i
+}
+
+// The least place of a word above the most in a list of so many words, or that number.
+fn first_above(lists: &Lists, list: u64, count: u64, most: u64) -> u64 {
+    let mut i = 0;
+    while i < count {
+        if map::get(lists, list, i) > most {
+            return i;
+        }
+        i += 1;
+    }
+    i
+}
+
+// 1 to 4; 0 for none.
+fn number_refusal(run: bool, case: Case) -> u64 {
+    let n = case.nodes;
+    let m = case.heads;
+    if (n < 1) | (n > 4096) {
+        return 1;
+    }
+    if run & (case.ceiling > 1048575) {
+        return 2;
+    }
+    if case.source >= n {
+        return 3;
+    }
+    if (m > 65536) | (run & (m != case.costs)) {
+        return 4;
+    }
+    0
+}
+
+// 5, 6 and 7.
+fn arc_refusal(case: Case, lists: &Lists) -> Refusal {
+    let n = case.nodes as u64;
+    let m = case.heads as u64;
+    let words_of_starts = words::sum(n, 1);
+    if case.starts as u64 != words_of_starts {
+        return refuse(5, 0);
+    }
+    let start = first_start_fault(n, m, lists);
+    if start < words_of_starts {
+        return refuse(6, start);
+    }
+    let head = first_above(lists, map::HEADS, m, words::minus(n, 1));
+    if head < m {
+        return refuse(7, head);
+    }
+    refuse(0, 0)
+}
+
+// 8 and 9 of a run.
+fn cost_refusal(levels: u32, case: Case, lists: &Lists) -> Refusal {
+    let m = case.costs as u64;
+    let cost = first_above(lists, map::COSTS, m, case.ceiling as u64);
+    if cost < m {
+        return refuse(8, cost);
+    }
+    let segments = case.segments;
+    if (levels == 2) & ((segments < 2) | (segments > 64)) {
+        return refuse(9, 0);
+    }
+    refuse(0, 0)
+}
+
+// The words that a run needs of the work list.
+pub fn work_words(levels: u32, nodes: u32) -> u64 {
+    let by_node = words::product(4, nodes as u64);
+    if levels == 1 {
+        return words::sum(by_node, 64);
+    }
+    words::sum(by_node, 384)
+}
+
+// 10.
+fn lent_refusal(levels: u32, case: Case) -> Refusal {
+    let n = case.nodes;
+    let run = levels != 0;
+    if run & (case.distances < n) {
+        return refuse(10, 0);
+    }
+    if case.parents < n {
+        return refuse(10, 1);
+    }
+    if run & (case.roster < n) {
+        return refuse(10, 2);
+    }
+    if run & ((case.work as u64) < work_words(levels, n)) {
+        return refuse(10, 3);
+    }
+    refuse(0, 0)
+}
+
+// The first of 1 to 10.
+pub fn refusal(levels: u32, case: Case, lists: &Lists) -> Refusal {
+    let number = number_refusal(levels != 0, case);
+    if number != 0 {
+        return refuse(number, 0);
+    }
+    let found = arc_refusal(case, lists);
+    if found.number != 0 {
+        return found;
+    }
+    if levels != 0 {
+        let found = cost_refusal(levels, case, lists);
+        if found.number != 0 {
+            return found;
+        }
+    }
+    lent_refusal(levels, case)
+}

@@ -1,0 +1,4 @@
+pub mod Distinct
+pub mod Spelled
+pub mod Tails
+pub mod Walking
