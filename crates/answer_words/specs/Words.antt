@@ -1,15 +1,20 @@
 -- The numbers of each answer as words (document 01, "What a call returns").
 use Prim.Native.Nat.{ℕ}
 use mathlib.Core.List.{List, [], _∷_}
+use Rattle.model.specs.declared.Counts.{Counts}
 use Rattle.model.specs.Answers.{Numbers}
 use Rattle.route.specs.Routes.{RouteNumbers}
 use Rattle.reader.specs.Promise.{PlanNumbers}
 
--- Number and place, then r, B, decreases, placements and looks (document 01, "What the planner holds and leaves out" and "What a call
+-- The counts: decreases, placements and looks (document 01, "The tallies").
+abbrev pub countsAsWords : Counts → List ℕ
+countsAsWords counts = counts .decreases ∷ counts .placements ∷ counts .looks ∷ []
+
+-- Number and place, then r, B and the counts (document 01, "What the planner holds and leaves out" and "What a call
 -- returns").
 abbrev pub runWords : Numbers → List ℕ
 runWords numbers =
-    numbers .returned ∷ numbers .place ∷ numbers .reached ∷ numbers .buckets ∷ numbers .decreases ∷ numbers .placements ∷ numbers .looks ∷ []
+    numbers .returned ∷ numbers .place ∷ numbers .reached ∷ numbers .buckets ∷ countsAsWords (numbers .counts)
 
 -- Number and place, then the number of nodes of the route (document 01, "Routes" and "What a call returns").
 abbrev pub routeWords : RouteNumbers → List ℕ

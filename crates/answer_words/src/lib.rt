@@ -15,17 +15,15 @@ pub fn run_words(answer: RunAnswer) -> [u64; 7]
         RunAnswer::Accepted {
             reached,
             buckets,
-            decreases,
-            placements,
-            looks,
+            counts,
         } => [
             0,
             0,
             reached as u64,
             buckets as u64,
-            decreases as u64,
-            placements as u64,
-            looks as u64,
+            counts.decreases as u64,
+            counts.placements as u64,
+            counts.looks as u64,
         ],
         RunAnswer::Refused { number, place } => [number as u64, place as u64, 0, 0, 0, 0, 0],
     }

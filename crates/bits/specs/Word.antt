@@ -10,8 +10,8 @@ unfoldable pub bit : ℕ → ℕ → ℕ
 bit x k = x / 2 ^ k % 2
 
 -- what the code's `1 << k` is in a word of d bits (for document 01, "The search")
-abbrev pub one : ℕ → ℕ → ℕ
-one d k = 1 * 2 ^ k % 2 ^ d
+abbrev pub oneBit : ℕ → ℕ → ℕ
+oneBit d k = 1 * 2 ^ k % 2 ^ d
 
 -- how many words of d bits n bits take (for document 01, "The search")
 abbrev pub wordCount : ℕ → ℕ → ℕ

@@ -8,7 +8,7 @@ use lib.ListN.{length, length-drop}
 use Rattle.theory.specs.Shape.{Shape}
 use Rattle.theory.specs.Heap.{bound, rebound, boundsAfter, boundsFrom, firstBounds}
 use Rattle.theory.proofs.Cases.{split}
-use Rattle.theory.proofs.Heap.Laws.{Lawful}
+use Rattle.theory.specs.Lawful.{Lawful}
 use Rattle.bounds.specs.Words.{boundsOf, sizeOf, reboundWords, firstWords, segmentNumber, segmentEnd, Agrees}
 use Rattle.bounds.proofs.Rebound.{rebound-same, rebound-alike}
 use Rattle.bounds.proofs.First.{boundsFrom-same, first-words-at}

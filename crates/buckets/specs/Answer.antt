@@ -28,9 +28,9 @@ abbrev pub None : (ℕ → Type 0) → Type 0
 None P = (u : ℕ) → P u → ⊥
 
 -- what was found is a node of the slot, and nothing only if there is none
-abbrev pub FirstOf : ℕ → ℕ → ℕ → List ℕ → Found → Type 0
-FirstOf n segments slot words (At v) = InSlot n segments slot words (v .0)
-FirstOf n segments slot words Nothing = None (InSlot n segments slot words)
+abbrev pub FirstIn : ℕ → ℕ → ℕ → List ℕ → Found → Type 0
+FirstIn n segments slot words (At v) = InSlot n segments slot words (v .0)
+FirstIn n segments slot words Nothing = None (InSlot n segments slot words)
 
 -- what was found is a node of the slot, which has left it, and nothing only if there is none
 abbrev pub FirstTaken : ℕ → ℕ → ℕ → ℕ → List ℕ → List ℕ → Found → Type 0
@@ -53,6 +53,6 @@ pub record Earlier (keys : List ℕ) (u v r : ℕ) : Type 0 where
   pub right : Before keys r v
 
 -- r is the node of a slot that goes before each
-pub record Least (n segments slot : ℕ) (words keys : List ℕ) (r : ℕ) : Type 0 where
+pub record LeastIn (n segments slot : ℕ) (words keys : List ℕ) (r : ℕ) : Type 0 where
   pub in-slot : InSlot n segments slot words r
   pub before : (u : ℕ) → InSlot n segments slot words u → Before keys r u

@@ -13,9 +13,9 @@ use mathlib.Core.Logic.{_⊎_}
 use mathlib.Core.List.{List, [], _∷_}
 use Prim.Native.Nat.{ℕ, suc, _+_, _*_, _≤_, _<_}
 use lib.ListN.{length, getD, set}
-use Rattle.buckets.specs.Lists.{In, Once}
+use Rattle.buckets.specs.Lists.{ListedIn, Once}
 use Rattle.buckets.specs.Tally.{tally}
-use Rattle.buckets.specs.Words.{placeWord, placeBucket, Held, Named, places, heads, countWords, countAt, owned, Kept, Fits}
+use Rattle.buckets.specs.Words.{placeWord, placeBucket, Held, Named, places, heads, countWords, countAt, owned, WordsKept, WordsFit}
 
 -- the index of a word that points to a node: a node's next word, or a slot's head word
 abbrev Points : ℕ → ℕ → ℕ → Type 0
@@ -32,8 +32,8 @@ record Slot (n segments : ℕ) (words : List ℕ) (slot : ℕ) : Type 0 where
   nodes : List ℕ
   chain : Spells n words (heads n + slot) nodes
   once : Once nodes
-  held : (x : ℕ) → In x nodes → getD words (2 * n + x) 0 ≡ placeWord segments slot
-  all : (x : ℕ) → x < n → getD words (2 * n + x) 0 ≡ placeWord segments slot → In x nodes
+  held : (x : ℕ) → ListedIn x nodes → getD words (2 * n + x) 0 ≡ placeWord segments slot
+  all : (x : ℕ) → x < n → getD words (2 * n + x) 0 ≡ placeWord segments slot → ListedIn x nodes
 
 -- each slot is in order, and each node that is held is held by one of the slots
 pub record Chains (n slots segments : ℕ) (words : List ℕ) : Type 0 where
@@ -48,7 +48,7 @@ Counted n slots segments words l =
 
 -- the words hold n nodes in slots: the lists and the counts are in order
 pub record Linked (n slots segments : ℕ) (words : List ℕ) : Type 0 where
-  pub fits : Fits n slots segments (length words)
+  pub fits : WordsFit n slots segments (length words)
   chains : Chains n slots segments words
   counted : Counted n slots segments words (places n words)
 
@@ -56,10 +56,10 @@ pub record Linked (n slots segments : ℕ) (words : List ℕ) : Type 0 where
 pub record Relinked (n slots segments : ℕ) (words words′ : List ℕ) (v x : ℕ) : Type 0 where
   chains : Chains n slots segments words′
   place : places n words′ ≡ set (places n words) v x
-  kept : Kept n slots words words′
+  kept : WordsKept n slots words words′
 
 -- the words are in order again with x for v's place word; every other place word, and every word that is the caller's, is as it was
 pub record Moved (n slots segments : ℕ) (words words′ : List ℕ) (v x : ℕ) : Type 0 where
   pub linked : Linked n slots segments words′
   pub place : places n words′ ≡ set (places n words) v x
-  pub kept : Kept n (owned slots segments) words words′
+  pub kept : WordsKept n (owned slots segments) words words′

@@ -6,11 +6,11 @@ use mathlib.Core.List.{List, [], _∷_}
 use Prim.Native.Nat.{ℕ}
 
 -- a node stands in a list
-abbrev pub In : ℕ → List ℕ → Type 0
-In x [] = ⊥
-In x (y ∷ l) = (x ≡ y) ⊎ In x l
+abbrev pub ListedIn : ℕ → List ℕ → Type 0
+ListedIn x [] = ⊥
+ListedIn x (y ∷ l) = (x ≡ y) ⊎ ListedIn x l
 
 -- no node stands twice
 abbrev pub Once : List ℕ → Type 0
 Once [] = Unit {0}
-Once (y ∷ l) = (In y l → ⊥) × Once l
+Once (y ∷ l) = (ListedIn y l → ⊥) × Once l

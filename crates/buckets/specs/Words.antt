@@ -13,12 +13,12 @@ use lib.ListN.{length, getD, set, take, drop}
 -- ---- place words
 
 -- the bucket of a slot, counted from 1
-abbrev pub bucketOf : ℕ → ℕ → ℕ
-bucketOf segments slot = slot / segments + 1
+abbrev pub slotBucket : ℕ → ℕ → ℕ
+slotBucket segments slot = slot / segments + 1
 
 -- the place word of a node that a slot holds
 abbrev pub placeWord : ℕ → ℕ → ℕ
-placeWord segments slot = bucketOf segments slot * 512 + (slot + 1)
+placeWord segments slot = slotBucket segments slot * 512 + (slot + 1)
 
 -- the bucket that a place word names
 abbrev pub placeBucket : ℕ → ℕ
@@ -59,7 +59,7 @@ heads n = 4 * n + 32
 
 -- how many buckets there are: the bucket of the last slot
 abbrev pub bucketCount : ℕ → ℕ → ℕ
-bucketCount slots segments = bucketOf segments (slots - 1)
+bucketCount slots segments = slotBucket segments (slots - 1)
 
 -- how many count words there are: one for each bucket, and none where a bucket is one slot
 pub countWords : ℕ → ℕ → ℕ
@@ -87,12 +87,12 @@ abbrev pub Other : ℕ → ℕ → ℕ → Type 0
 Other n own j = ((3 * n ≤ j) × (j < heads n)) ⊎ (heads n + own ≤ j)
 
 -- every word that is not the lists' is as it was
-pub record Kept (n own : ℕ) (words words′ : List ℕ) : Type 0 where
+pub record WordsKept (n own : ℕ) (words words′ : List ℕ) : Type 0 where
   pub same-length : length words′ ≡ length words
   pub same : (j : ℕ) → Other n own j → getD words′ j 0 ≡ getD words j 0
 
 -- the sizes that the lists are made for: each index fits a word, and each slot's number the low 9 bits of a place word
-pub record Fits (n slots segments size : ℕ) : Type 0 where
+pub record WordsFit (n slots segments size : ℕ) : Type 0 where
   pub long : heads n + owned slots segments ≤ size
   pub small : heads n + slots < 4294967296
   pub some : 0 < slots

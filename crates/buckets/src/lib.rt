@@ -16,7 +16,7 @@ ghost use Prim.Native.Nat.{_≤_, _<_};
 ghost use lib.ListN.{length};
 ghost use Rattle.buckets.specs.Words.{bucketCount};
 ghost use Rattle.buckets.specs.Links.{Linked};
-ghost use Rattle.buckets.specs.Answer.{InSlot, Some, FirstOf, EmptyBucket, Earlier, Least};
+ghost use Rattle.buckets.specs.Answer.{InSlot, Some, FirstIn, EmptyBucket, Earlier, LeastIn};
 
 pub enum Found {
     At(Node),
@@ -27,7 +27,7 @@ pub enum Found {
 pub fn first(words: &[u32], n: usize, slots: usize, segments: usize, slot: usize) -> Found
     requires { ⌜ Linked n slots segments (now words) ⌝ }
     requires { ⌜ slot < slots ⌝ }
-    ensures { λ r. ⌜ FirstOf n segments slot (now (words .entry)) r ⌝ }
+    ensures { λ r. ⌜ FirstIn n segments slot (now (words .entry)) r ⌝ }
 {
     let first = words[4 * n + 32 + slot];
     if first == 0 {
@@ -79,7 +79,7 @@ pub fn least(
     requires { ⌜ Linked n slots segments (now words) ⌝ }
     requires { ⌜ (slot < slots) × (n ≤ length (now keys)) ⌝ }
     requires { ⌜ Some (InSlot n segments slot (now words)) ⌝ }
-    ensures { λ r. ⌜ Least n segments slot (now (words .entry)) (now (keys .entry)) (r .0) ⌝ }
+    ensures { λ r. ⌜ LeastIn n segments slot (now (words .entry)) (now (keys .entry)) (r .0) ⌝ }
 {
     let first = words[4 * n + 32 + slot] as usize;
     let mut best = first - 1;

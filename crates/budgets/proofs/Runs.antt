@@ -1,26 +1,30 @@
 -- No accepted run exceeds the bounds of its size. Assumes nothing.
-use Prim.Native.Nat.{ℕ, zero, suc, _+_, _-_, _*_, _≤_, min}
+use Prim.Native.Nat.{ℕ, _+_, _-_, _*_, _≤_}
 use native.Mathlib.Omega.{arith}
 use native.Mathlib.Nat.{mul-le-mul, le-refl}
-use mathlib.Core.Path.{_≡_, refl, sym, _∙_, ap, subst}
+use mathlib.Core.Path.{_≡_, _∙_, ap, subst}
 use mathlib.Core.List.{List, [], _∷_, List·Memᴰ, List·Memᴰ·not-nil}
 use lib.ListN.{length}
 use Rattle.model.specs.declared.Check.{Check}
 use Rattle.model.specs.declared.Check.the-variants.{Passed}
 use Rattle.model.specs.declared.RunAnswer.{RunAnswer}
-use Rattle.model.specs.Answers.{Numbers, numbersOf, acceptedNumbers}
-use Rattle.theory.specs.Maps.{Map, mapOf, arcs, Route}
-use Rattle.theory.specs.Shape.{oneLevelBuckets, twoLevelBuckets}
+use Rattle.model.specs.Answers.{Numbers, numbersOf}
+use Rattle.theory.specs.Maps.{Map, arcs, Route}
+use Rattle.theory.specs.Runs.{Inputs, Levels, one, two, heapBuckets, removalLooks}
 use Rattle.theory.specs.Heap.{Heap, placements}
 use Rattle.theory.specs.Demands.{BoundedCounts}
-use Rattle.checks.specs.Checks.{firstFault, oneLevelChecks, twoLevelChecks, oneLevelWork, twoLevelWork}
-use Rattle.runs.specs.Promise.{Lent, Promised, OneLevelPromised, TwoLevelPromised}
+use Rattle.checks.specs.Checks.{firstFault, runChecks}
+use Rattle.runs.specs.Promise.{Lent, lengthsOf, Ran, Promised}
 use Rattle.budgets.specs.Budget.{mostReached, mostDecreases, mostPlacements, mostLooks, Within}
 use Rattle.budgets.proofs.Sizing.{one-some, two-some}
 
 some-listed : {v : ℕ} (l : List ℕ) → List·Memᴰ v l → 1 ≤ length l
 some-listed [] m = absurd (List·Memᴰ·not-nil m)
 some-listed (x ∷ l) m = omega arith
+
+buckets-some : (L : Levels) (C : ℕ) → 1 ≤ heapBuckets L C
+buckets-some one C = one-some C
+buckets-some (two K) C = two-some C K
 
 module _ {M : Map} {source B L : ℕ} {h : Heap} (counts : BoundedCounts M source B L h) (some : 1 ≤ B) where
   abbrev r : ℕ
@@ -41,24 +45,16 @@ module _ {M : Map} {source B L : ℕ} {h : Heap} (counts : BoundedCounts M sourc
   looks-within : h .looks ≤ mostLooks (M .nodes) (arcs M) L
   looks-within = let most : r * L ≤ mostReached (M .nodes) (arcs M) * L = mul-le-mul reached (le-refl L) in omega (arith, counts .looked)
 
-run-within : {M : Map} {source B L needed : ℕ} {h : Heap} {check : Check} {answer : RunAnswer} {l l′ : Lent} → 1 ≤ B → check ≡ Passed
-    → Promised check M source B L needed h answer l l′ → Within (M .nodes) (arcs M) B L (numbersOf answer)
-run-within {M} {source} {B} {L} {needed} {h} {check} {answer} {l} {l′} some e P =
-    let Q = subst (λ (k : Check). Promised k M source B L needed h answer l l′) e P in
-    let counts = Q .demanded .counts in
-    record {
-      buckets = ap (λ (n : Numbers). n .buckets) (Q .numbers);
-      decreases = omega (arith, ap (λ (n : Numbers). n .decreases) (Q .numbers), decreases-within counts some);
-      placements = omega (arith, ap (λ (n : Numbers). n .placements) (Q .numbers), placements-within counts some);
-      looks = omega (arith, ap (λ (n : Numbers). n .looks) (Q .numbers), looks-within counts some);
-    }
-
-module _ (n C source : ℕ) (starts heads costs : List ℕ) (l l′ : Lent) {answer : RunAnswer} where
-  pub one-level-within : firstFault (oneLevelChecks n C source starts heads costs (length (l .distances)) (length (l .parents)) (length (l .roster)) (length (l .work))) ≡ Passed
-      → OneLevelPromised n C source starts heads costs answer l l′ → Within n (length heads) (oneLevelBuckets C) (oneLevelBuckets C) (numbersOf answer)
-  one-level-within e P = run-within (one-some C) e P
-
-  pub two-level-within : (K : ℕ)
-      → firstFault (twoLevelChecks n C source K starts heads costs (length (l .distances)) (length (l .parents)) (length (l .roster)) (length (l .work))) ≡ Passed
-      → TwoLevelPromised n C source K starts heads costs answer l l′ → Within n (length heads) (twoLevelBuckets C K) (twoLevelBuckets C K + K) (numbersOf answer)
-  two-level-within K e P = run-within (two-some C K) e P
+module _ (L : Levels) (I : Inputs) (l l′ : Lent) {answer : RunAnswer} where
+  pub run-within : firstFault (runChecks L I (lengthsOf l)) ≡ Passed → Promised L I answer l l′
+      → Within (I .map .nodes) (arcs (I .map)) (heapBuckets L (I .ceiling)) (removalLooks L (I .ceiling)) (numbersOf answer)
+  run-within e P =
+      let Q = subst (λ (k : Check). Ran L I k answer l l′) e P in
+      let counts = Q .demanded .counts in
+      let some = buckets-some L (I .ceiling) in
+      record {
+        buckets = ap (λ (n : Numbers). n .buckets) (Q .numbers);
+        decreases = omega (arith, ap (λ (n : Numbers). n .counts .decreases) (Q .numbers), decreases-within counts some);
+        placements = omega (arith, ap (λ (n : Numbers). n .counts .placements) (Q .numbers), placements-within counts some);
+        looks = omega (arith, ap (λ (n : Numbers). n .counts .looks) (Q .numbers), looks-within counts some);
+      }

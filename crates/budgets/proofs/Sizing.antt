@@ -21,7 +21,7 @@ use Rattle.fields.proofs.Lines.{line-within}
 use Rattle.fields.proofs.LineReading.{missing-line, line-read}
 use Rattle.report.specs.Report.{wordOne, wordTwo, ended, refusedText}
 use Rattle.report.proofs.Lines.{ended-length, field-most, two-most}
-use Rattle.budgets.specs.Budget.{mostReached, Small, sizeChecks, budgetCheck, boundsLine, sizeText, budgetText}
+use Rattle.budgets.specs.Budget.{mostReached, Small, budgetChecks, budgetCheck, boundsLine, sizeText, budgetText}
 
 -- ---- sizes
 
@@ -34,11 +34,11 @@ pub record Sized (n m C K : ℕ) : Type 0 where
   pub segments-low : 2 ≤ K
   pub segments-high : K ≤ 64
 
-pub passed-sized : (n m C K : ℕ) → firstFault (sizeChecks n m C K) ≡ Passed → Sized n m C K
-unfolding sizeChecks
+pub passed-sized : (n m C K : ℕ) → firstFault (budgetChecks n m C K) ≡ Passed → Sized n m C K
+unfolding budgetChecks
 passed-sized n m C K e = go (passed-all _ e)
   where
-    go : AllPass (sizeChecks n m C K) → Sized n m C K
+    go : AllPass (budgetChecks n m C K) → Sized n m C K
     go (more nodes (more arcs (more ceiling (more segments none)))) =
         let range = passed-range 1 n 1 4096 nodes in
         let parts = passed-range 9 K 2 64 segments in
@@ -117,7 +117,7 @@ module _ (bytes size : List ℕ) {taken : ℕ} (e : lineTaken (line comma 4 byte
   line-inside = line-within comma 4 (omega arith) bytes size taken numbers-read
 
   abbrev made : List Check
-  made = sizeChecks (getD size 0 0) (getD size 1 0) (getD size 2 0) (getD size 3 0) ++ (faultIf 11 2 (ltb 0 (length bytes - taken)) ∷ [])
+  made = budgetChecks (getD size 0 0) (getD size 1 0) (getD size 2 0) (getD size 3 0) ++ (faultIf 11 2 (ltb 0 (length bytes - taken)) ∷ [])
 
   check-made : firstFault made ≡ budgetCheck bytes
   unfolding budgetCheck
@@ -131,5 +131,5 @@ module _ (bytes size : List ℕ) {taken : ℕ} (e : lineTaken (line comma 4 byte
   unfolding budgetText
   passed-text g = rw (sym check-made ∙ g, numbers-read) refl
 
-  pub passed-size : firstFault made ≡ Passed → firstFault (sizeChecks (getD size 0 0) (getD size 1 0) (getD size 2 0) (getD size 3 0)) ≡ Passed
-  passed-size g = pass-parts (sizeChecks (getD size 0 0) (getD size 1 0) (getD size 2 0) (getD size 3 0)) (faultIf 11 2 (ltb 0 (length bytes - taken)) ∷ []) g .0
+  pub passed-size : firstFault made ≡ Passed → firstFault (budgetChecks (getD size 0 0) (getD size 1 0) (getD size 2 0) (getD size 3 0)) ≡ Passed
+  passed-size g = pass-parts (budgetChecks (getD size 0 0) (getD size 1 0) (getD size 2 0) (getD size 3 0)) (faultIf 11 2 (ltb 0 (length bytes - taken)) ∷ []) g .0

@@ -34,9 +34,9 @@ mostLooks n m L = mostReached n m * L
 -- A run has returned no more than the bounds of its size, for a heap of B buckets in which a removal makes at most L looks (demand 3).
 pub record Within (n m B L : ℕ) (numbers : answers.Numbers) : Type 0 where
   pub buckets : numbers .buckets ≡ B
-  pub decreases : numbers .decreases ≤ mostDecreases m
-  pub placements : numbers .placements ≤ mostPlacements n m B
-  pub looks : numbers .looks ≤ mostLooks n m L
+  pub decreases : numbers .counts .decreases ≤ mostDecreases m
+  pub placements : numbers .counts .placements ≤ mostPlacements n m B
+  pub looks : numbers .counts .looks ≤ mostLooks n m L
 
 -- Numbers so small that the bounds fit a word of 32 bits.
 pub record Small (reached buckets arcs : ℕ) : Type 0 where
@@ -55,19 +55,19 @@ pub record Size : Type 0 where
   pub segments : ℕ
 
 -- The size that a line tells; a line that is ill-formed is refused, and its numbers count as 0.
-abbrev pub sizeOf : Line → Size
-sizeOf NoLine = record { nodes = 0; arcs = 0; ceiling = 0; segments = 0 }
-sizeOf (Numbers values length) = record { nodes = getD values 0 0; arcs = getD values 1 0; ceiling = getD values 2 0; segments = getD values 3 0 }
+abbrev pub sizeTold : Line → Size
+sizeTold NoLine = record { nodes = 0; arcs = 0; ceiling = 0; segments = 0 }
+sizeTold (Numbers values taken) = record { nodes = getD values 0 0; arcs = getD values 1 0; ceiling = getD values 2 0; segments = getD values 3 0 }
 
 -- 1, 4, 2 and 9 of a size (document 01, "What a call returns").
-unfoldable pub sizeChecks : (n m C K : ℕ) → List Check
-sizeChecks n m C K = nodesCheck n ∷ headCountCheck m ∷ ceilingCheck C ∷ segmentsCheck K ∷ []
+unfoldable pub budgetChecks : (n m C K : ℕ) → List Check
+budgetChecks n m C K = nodesCheck n ∷ headCountCheck m ∷ ceilingCheck C ∷ segmentsCheck K ∷ []
 
 -- The line by 11, 1, 4, 2 and 9, then left-over bytes (document 01, "What a call returns").
 abbrev pub lineCheck : Line → (bytes : List ℕ) → Check
 lineCheck NoLine bytes = Fault 11 1
 lineCheck (Numbers values taken) bytes =
-    firstFault (sizeChecks (getD values 0 0) (getD values 1 0) (getD values 2 0) (getD values 3 0) ++ (faultIf 11 2 (ltb 0 (length (drop taken bytes))) ∷ []))
+    firstFault (budgetChecks (getD values 0 0) (getD values 1 0) (getD values 2 0) (getD values 3 0) ++ (faultIf 11 2 (ltb 0 (length (drop taken bytes))) ∷ []))
 
 -- The checks of the input (document 01, "What a call returns").
 unfoldable pub budgetCheck : (bytes : List ℕ) → Check
@@ -86,10 +86,10 @@ sizeText n m C K =
     ++ boundsLine wordTwo (twoLevelBuckets C K) (mostDecreases m) (mostPlacements n m (twoLevelBuckets C K)) (mostLooks n m (twoLevelBuckets C K + K))
 
 -- The text for a line whose checks come to `check`.
-abbrev pub checkedText : Check → Size → List ℕ
-checkedText Passed size = sizeText (size .nodes) (size .arcs) (size .ceiling) (size .segments)
-checkedText (Fault number place) size = refusedText number place
+abbrev pub budgetLines : Check → Size → List ℕ
+budgetLines Passed size = sizeText (size .nodes) (size .arcs) (size .ceiling) (size .segments)
+budgetLines (Fault number place) size = refusedText number place
 
 -- What `budget` prints.
 unfoldable pub budgetText : (bytes : List ℕ) → List ℕ
-budgetText bytes = checkedText (budgetCheck bytes) (sizeOf (line comma 4 bytes))
+budgetText bytes = budgetLines (budgetCheck bytes) (sizeTold (line comma 4 bytes))

@@ -10,7 +10,7 @@ ghost use Rattle.model.specs.declared.Check.the-variants.{Passed};
 ghost use Rattle.check_numbers.specs.Numbers.{faultIf};
 ghost use Rattle.checks.specs.Checks.{firstFault};
 ghost use Rattle.fields.specs.Writing.{Writes};
-ghost use Rattle.budgets.specs.Budget.{mostReached, Small, sizeChecks, boundsLine, sizeText, budgetText};
+ghost use Rattle.budgets.specs.Budget.{mostReached, Small, budgetChecks, boundsLine, sizeText, budgetText};
 
 fn most_reached(nodes: u32, arcs: u32) -> u32
     requires { ⌜ arcs ≤ 65536 ⌝ }
@@ -54,7 +54,7 @@ fn write_bounds(
 
 // The bounds of both heaps for a size that has passed its checks.
 fn write_size(output: &mut [u8], nodes: u32, arcs: u32, ceiling: u32, segments: u32) -> usize
-    requires { ⌜ firstFault (sizeChecks nodes arcs ceiling segments) ≡ Passed ⌝ }
+    requires { ⌜ firstFault (budgetChecks nodes arcs ceiling segments) ≡ Passed ⌝ }
     requires { ⌜ 256 ≤ length (now output) ⌝ }
     ensures { λ r. ⌜ Writes 0 (sizeText nodes arcs ceiling segments) (now (output .entry)) (now (output .exit)) r ⌝ }
 {
@@ -83,7 +83,7 @@ fn write_size(output: &mut [u8], nodes: u32, arcs: u32, ceiling: u32, segments: 
 
 // The checks of a size, then left-over bytes.
 fn size_check(nodes: u32, arcs: u32, ceiling: u32, segments: u32, left: usize) -> Check
-    ensures { λ r. ⌜ r ≡ firstFault (sizeChecks nodes arcs ceiling segments ++ (faultIf 11 2 (ltb 0 left) ∷ [])) ⌝ }
+    ensures { λ r. ⌜ r ≡ firstFault (budgetChecks nodes arcs ceiling segments ++ (faultIf 11 2 (ltb 0 left) ∷ [])) ⌝ }
 {
     let found = checks::first_of(
         check_numbers::nodes_check(nodes),

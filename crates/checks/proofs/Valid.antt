@@ -1,24 +1,42 @@
 -- A map, a ceiling and a source pass their checks exactly if they are valid; what the checks of a run say besides. Assumes nothing.
 use mathlib.Core.Path.{_≡_, refl, sym, _∙_}
-use mathlib.Core.List.{List, _∷_}
-use Prim.Native.Nat.{ℕ, suc, _+_, _-_, _≤_}
+use mathlib.Core.List.{List, _++_}
+use Prim.Native.Nat.{ℕ, suc, _+_, _-_}
 use native.Mathlib.Numerals.{add-one}
 use native.Mathlib.Omega.{arith}
 use lib.ListN.{length}
 use Rattle.model.specs.declared.Check.the-variants.{Passed}
-use Rattle.theory.specs.Maps.{mapOf, Valid}
-use Rattle.check_numbers.specs.Numbers.{segmentsCheck}
+use Rattle.model.specs.declared.Check.{Check}
+use Rattle.theory.specs.Runs.{Inputs, ValidInputs, Levels, one, two, Allowed, workWords}
 use Rattle.check_lists.specs.Lists.{NoneFalls}
 use Rattle.check_lists.proofs.Start.{rise-passes, passed-fits}
 use Rattle.check_lists.proofs.Words.{heads-below, heads-pass, costs-most, costs-pass}
-use Rattle.checks.specs.Checks.{firstFault, sizeChecks, mapChecks, lentChecks, runLists, oneLevelWork, twoLevelWork, oneLevelChecks, twoLevelChecks}
-use Rattle.checks.proofs.Order.{AllPass, none, more, passed-all, all-passed, first-passed, rest-pass, pass-parts, parts-pass}
+use Rattle.checks.specs.Checks.{firstFault, sizeChecks, mapChecks, lentChecks, runLists, levelsChecks, runChecks, Lengths, Ready}
+use Rattle.checks.proofs.Order.{AllPass, none, more, passed-all, all-passed, first-passed, pass-parts, parts-pass}
 use Rattle.checks.proofs.Sizes.{passed-range, range-passes, passed-ceiling, ceiling-passes, passed-source, source-passes, passed-arcs, arcs-pass, passed-starts, starts-pass, passed-lent, lent-passes}
 
 -- ---- a map
 
-module _ (n C source : ℕ) (starts heads costs : List ℕ) where
-  valid : AllPass (mapChecks n C source starts heads costs) → Valid (mapOf n starts heads costs) C source
+module _ (I : Inputs) where
+  abbrev n : ℕ
+  n = I .map .nodes
+
+  abbrev C : ℕ
+  C = I .ceiling
+
+  abbrev source : ℕ
+  source = I .source
+
+  abbrev starts : List ℕ
+  starts = I .map .starts
+
+  abbrev heads : List ℕ
+  heads = I .map .heads
+
+  abbrev costs : List ℕ
+  costs = I .map .costs
+
+  valid : AllPass (mapChecks I) → ValidInputs I
   unfolding sizeChecks mapChecks
   valid (more nodes (more ceiling (more from (more arcs (more count (more words (more below (more most none)))))))) =
       let range = passed-range 1 n 1 4096 nodes in
@@ -41,10 +59,10 @@ module _ (n C source : ℕ) (starts heads costs : List ℕ) where
         costs-most = λ a l. costs-most C costs most a (omega (arith, counts .1));
       }
 
-  pub passed-valid : firstFault (mapChecks n C source starts heads costs) ≡ Passed → Valid (mapOf n starts heads costs) C source
-  passed-valid e = valid (passed-all (mapChecks n C source starts heads costs) e)
+  pub passed-valid : firstFault (mapChecks I) ≡ Passed → ValidInputs I
+  passed-valid e = valid (passed-all (mapChecks I) e)
 
-  pub valid-passed : Valid (mapOf n starts heads costs) C source → firstFault (mapChecks n C source starts heads costs) ≡ Passed
+  pub valid-passed : ValidInputs I → firstFault (mapChecks I) ≡ Passed
   unfolding sizeChecks mapChecks
   valid-passed v =
       all-passed
@@ -67,64 +85,49 @@ module _ (n C source : ℕ) (starts heads costs : List ℕ) where
 
 -- ---- a run
 
--- the lists lent to a run have the words that they need
-pub record ListsFit (n distances parents roster work needed : ℕ) : Type 0 where
-  pub distances-fit : n ≤ distances
-  pub parents-fit : n ≤ parents
-  pub roster-fit : n ≤ roster
-  pub work-fit : needed ≤ work
+module _ (L : Levels) (I : Inputs) (room : Lengths) where
+  abbrev lists : List Check
+  lists = lentChecks 0 (runLists (I .map .nodes) room (workWords L (I .map .nodes)))
 
-module _ (n distances parents roster work needed : ℕ) where
-  lists-fit : AllPass (lentChecks 0 (runLists n distances parents roster work needed)) → ListsFit n distances parents roster work needed
+  ready : ValidInputs I → Allowed L → AllPass lists → Ready L I room
   unfolding lentChecks
-  lists-fit (more first (more second (more third (more fourth none)))) = record {
-    distances-fit = passed-lent 0 distances n first;
-    parents-fit = passed-lent 1 parents n second;
-    roster-fit = passed-lent 2 roster n third;
-    work-fit = passed-lent 3 work needed fourth;
+  ready valid allowed (more first (more second (more third (more fourth none)))) = record {
+    valid = valid;
+    allowed = allowed;
+    distances-fit = passed-lent 0 (room .distances) (I .map .nodes) first;
+    parents-fit = passed-lent 1 (room .parents) (I .map .nodes) second;
+    roster-fit = passed-lent 2 (room .roster) (I .map .nodes) third;
+    work-fit = passed-lent 3 (room .work) (workWords L (I .map .nodes)) fourth;
   }
 
-  fit-passes : ListsFit n distances parents roster work needed → AllPass (lentChecks 0 (runLists n distances parents roster work needed))
+  lists-pass : Ready L I room → AllPass lists
   unfolding lentChecks
-  fit-passes fit =
-      more (lent-passes 0 distances n (fit .distances-fit))
-      (more (lent-passes 1 parents n (fit .parents-fit))
-      (more (lent-passes 2 roster n (fit .roster-fit)) (more (lent-passes 3 work needed (fit .work-fit)) none)))
+  lists-pass r =
+      more (lent-passes 0 (room .distances) (I .map .nodes) (r .distances-fit))
+      (more (lent-passes 1 (room .parents) (I .map .nodes) (r .parents-fit))
+      (more (lent-passes 2 (room .roster) (I .map .nodes) (r .roster-fit))
+      (more (lent-passes 3 (room .work) (workWords L (I .map .nodes)) (r .work-fit)) none)))
 
-module _ (n C source : ℕ) (starts heads costs : List ℕ) (distances parents roster work : ℕ) where
-  pub one-level-passed : firstFault (oneLevelChecks n C source starts heads costs distances parents roster work) ≡ Passed
-      → (firstFault (mapChecks n C source starts heads costs) ≡ Passed) × ListsFit n distances parents roster work (oneLevelWork n)
-  unfolding oneLevelChecks
-  one-level-passed e =
-      let lists = lentChecks 0 (runLists n distances parents roster work (oneLevelWork n)) in
-      let parts = pass-parts (mapChecks n C source starts heads costs) lists e in
-      (parts .0, lists-fit n distances parents roster work (oneLevelWork n) (passed-all lists (parts .1)))
+-- K is allowed exactly if its check passes
+passed-allowed : (L : Levels) → firstFault (levelsChecks L) ≡ Passed → Allowed L
+passed-allowed one e = tt
+passed-allowed (two K) e = passed-range 9 K 2 64 (first-passed (passed-all _ e))
 
-  pub one-level-passes : Valid (mapOf n starts heads costs) C source → ListsFit n distances parents roster work (oneLevelWork n)
-      → firstFault (oneLevelChecks n C source starts heads costs distances parents roster work) ≡ Passed
-  unfolding oneLevelChecks
-  one-level-passes v fit =
-      parts-pass (mapChecks n C source starts heads costs) (lentChecks 0 (runLists n distances parents roster work (oneLevelWork n)))
-      (valid-passed n C source starts heads costs v)
-      (all-passed (fit-passes n distances parents roster work (oneLevelWork n) fit))
+allowed-passes : (L : Levels) → Allowed L → firstFault (levelsChecks L) ≡ Passed
+allowed-passes one a = all-passed none
+allowed-passes (two K) a = all-passed (more (range-passes 9 K 2 64 (a .0) (a .1)) none)
 
-  module _ (K : ℕ) where
-    pub two-level-passed : firstFault (twoLevelChecks n C source K starts heads costs distances parents roster work) ≡ Passed
-        → (firstFault (mapChecks n C source starts heads costs) ≡ Passed) × ((2 ≤ K) × (K ≤ 64))
-        × ListsFit n distances parents roster work (twoLevelWork n)
-    unfolding twoLevelChecks
-    two-level-passed e =
-        let lists = segmentsCheck K ∷ lentChecks 0 (runLists n distances parents roster work (twoLevelWork n)) in
-        let parts = pass-parts (mapChecks n C source starts heads costs) lists e in
-        let passed = passed-all lists (parts .1) in
-        (parts .0, passed-range 9 K 2 64 (first-passed passed), lists-fit n distances parents roster work (twoLevelWork n) (rest-pass passed))
+-- The checks of a run pass exactly if it can be made.
+module _ {L : Levels} {I : Inputs} {room : Lengths} where
+  pub passed-ready : firstFault (runChecks L I room) ≡ Passed → Ready L I room
+  unfolding runChecks
+  passed-ready e =
+      let p = pass-parts (mapChecks I) (levelsChecks L ++ lists L I room) e in
+      let q = pass-parts (levelsChecks L) (lists L I room) (p .1) in
+      ready L I room (passed-valid I (p .0)) (passed-allowed L (q .0)) (passed-all (lists L I room) (q .1))
 
-    pub two-level-passes : Valid (mapOf n starts heads costs) C source → 2 ≤ K → K ≤ 64
-        → ListsFit n distances parents roster work (twoLevelWork n)
-        → firstFault (twoLevelChecks n C source K starts heads costs distances parents roster work) ≡ Passed
-    unfolding twoLevelChecks
-    two-level-passes v low high fit =
-        parts-pass (mapChecks n C source starts heads costs)
-        (segmentsCheck K ∷ lentChecks 0 (runLists n distances parents roster work (twoLevelWork n)))
-        (valid-passed n C source starts heads costs v)
-        (all-passed (more (range-passes 9 K 2 64 low high) (fit-passes n distances parents roster work (twoLevelWork n) fit)))
+  pub ready-passed : Ready L I room → firstFault (runChecks L I room) ≡ Passed
+  unfolding runChecks
+  ready-passed r =
+      parts-pass (mapChecks I) (levelsChecks L ++ lists L I room) (valid-passed I (r .valid))
+      (parts-pass (levelsChecks L) (lists L I room) (allowed-passes L (r .allowed)) (all-passed (lists-pass L I room r)))

@@ -1,11 +1,12 @@
 -- The order in which each entry point makes the checks of what a call is given (document 01, "What a call returns").
-use Prim.Native.Nat.{ℕ, suc, _+_, _*_}
+use Prim.Native.Nat.{ℕ, suc, _≤_}
 use mathlib.Core.List.{List, [], _∷_, _++_}
 use lib.ListN.{length}
 use Rattle.model.specs.declared.Check.{Check}
 use Rattle.model.specs.declared.Check.the-variants.{Passed, Fault}
 use Rattle.check_numbers.specs.Numbers.{nodesCheck, ceilingCheck, sourceCheck, arcCountCheck, startCountCheck, segmentsCheck, lentCheck}
 use Rattle.check_lists.specs.Lists.{startsCheck, headsCheck, costsCheck}
+use Rattle.theory.specs.Runs.{Inputs, ValidInputs, Levels, one, two, Allowed, workWords}
 
 -- ---- what the order is made of
 
@@ -16,12 +17,12 @@ firstFault (Passed ∷ checks) = firstFault checks
 firstFault (Fault number place ∷ checks) = Fault number place
 
 -- A lent list, by its words and the words that it needs (document 01, "What a call returns").
-pub record Lent : Type 0 where
+pub record LentList : Type 0 where
   pub words : ℕ
   pub needed : ℕ
 
 -- 10: the lent lists in the order of their places, the first at `place` (document 01, "What a call returns").
-unfoldable pub lentChecks : (place : ℕ) → List Lent → List Check
+unfoldable pub lentChecks : (place : ℕ) → List LentList → List Check
 lentChecks place [] = []
 lentChecks place (list ∷ lists) = lentCheck place (list .words) (list .needed) ∷ lentChecks (suc place) lists
 
@@ -33,36 +34,46 @@ sizeChecks n C source starts heads costs =
     nodesCheck n ∷ ceilingCheck C ∷ sourceCheck n source ∷ arcCountCheck heads costs ∷ startCountCheck n starts ∷ []
 
 -- 1 to 8, the checks of a map, its ceiling and source, that every run makes first (document 01, "What a call returns").
-unfoldable pub mapChecks : (n C source : ℕ) → (starts heads costs : List ℕ) → List Check
-mapChecks n C source starts heads costs =
-    sizeChecks n C source (length starts) (length heads) (length costs)
-    ++ (startsCheck n (length heads) starts ∷ headsCheck n heads ∷ costsCheck C costs ∷ [])
+unfoldable pub mapChecks : Inputs → List Check
+mapChecks I =
+    sizeChecks (I .map .nodes) (I .ceiling) (I .source) (length (I .map .starts)) (length (I .map .heads)) (length (I .map .costs))
+    ++ (startsCheck (I .map .nodes) (length (I .map .heads)) (I .map .starts) ∷ headsCheck (I .map .nodes) (I .map .heads) ∷ costsCheck (I .ceiling) (I .map .costs) ∷ [])
 
--- The lists lent to a run, whose work needs so many words: 0 distances, 1 parents, 2 roster, 3 work (document 01, "What a call
+-- How long the lists lent to a run are: their places are 0 distances, 1 parents, 2 roster, 3 work (document 01, "What a call
 -- returns").
-abbrev pub runLists : (n distances parents roster work needed : ℕ) → List Lent
-runLists n distances parents roster work needed =
-    record { words = distances; needed = n }
-    ∷ record { words = parents; needed = n }
-    ∷ record { words = roster; needed = n }
-    ∷ record { words = work; needed = needed }
+pub record Lengths : Type 0 where
+  pub distances : ℕ
+  pub parents : ℕ
+  pub roster : ℕ
+  pub work : ℕ
+
+-- The lists lent to a run, whose work needs so many words (document 01, "What a call returns").
+abbrev pub runLists : (n : ℕ) → Lengths → (needed : ℕ) → List LentList
+runLists n lengths needed =
+    record { words = lengths .distances; needed = n }
+    ∷ record { words = lengths .parents; needed = n }
+    ∷ record { words = lengths .roster; needed = n }
+    ∷ record { words = lengths .work; needed = needed }
     ∷ []
 
--- The words of work that a one-level run needs (document 01, "What the planner holds and leaves out").
-abbrev pub oneLevelWork : (n : ℕ) → ℕ
-oneLevelWork n = 4 * n + 64
+-- 9, which a one-level run does not make (document 01, "What a call returns").
+abbrev pub levelsChecks : Levels → List Check
+levelsChecks one = []
+levelsChecks (two K) = segmentsCheck K ∷ []
 
--- The words of work that a two-level run needs (document 01, "What the planner holds and leaves out").
-abbrev pub twoLevelWork : (n : ℕ) → ℕ
-twoLevelWork n = 4 * n + 384
+-- A run: 1 to 8, then 9 for two levels, then 10 (document 01, "What a call returns").
+unfoldable pub runChecks : Levels → Inputs → Lengths → List Check
+runChecks L I lengths = mapChecks I ++ (levelsChecks L ++ lentChecks 0 (runLists (I .map .nodes) lengths (workWords L (I .map .nodes))))
 
--- A one-level run: 1 to 8, then 10 (document 01, "What a call returns").
-unfoldable pub oneLevelChecks : (n C source : ℕ) → (starts heads costs : List ℕ) → (distances parents roster work : ℕ) → List Check
-oneLevelChecks n C source starts heads costs distances parents roster work =
-    mapChecks n C source starts heads costs ++ lentChecks 0 (runLists n distances parents roster work (oneLevelWork n))
+-- What these checks show: inputs and lists on which a run can be made (document 01, "What a call returns").
+pub record Ready (L : Levels) (I : Inputs) (lengths : Lengths) : Type 0 where
+  pub valid : ValidInputs I
+  pub allowed : Allowed L
+  pub distances-fit : I .map .nodes ≤ lengths .distances
+  pub parents-fit : I .map .nodes ≤ lengths .parents
+  pub roster-fit : I .map .nodes ≤ lengths .roster
+  pub work-fit : workWords L (I .map .nodes) ≤ lengths .work
 
--- A two-level run: 1 to 10 (document 01, "What a call returns").
-unfoldable pub twoLevelChecks : (n C source K : ℕ) → (starts heads costs : List ℕ) → (distances parents roster work : ℕ) → List Check
-twoLevelChecks n C source K starts heads costs distances parents roster work =
-    mapChecks n C source starts heads costs
-    ++ (segmentsCheck K ∷ lentChecks 0 (runLists n distances parents roster work (twoLevelWork n)))
+-- Lengths from their parts (document 01, "What a call returns").
+abbrev pub lengthsFor : (distances parents roster work : ℕ) → Lengths
+lengthsFor distances parents roster work = record { distances = distances; parents = parents; roster = roster; work = work }

@@ -5,7 +5,8 @@ use model::Check;
 use model::Node;
 ghost use mathlib.Core.Path.{_≡_};
 ghost use mathlib.Core.List.{[], _∷_};
-ghost use Rattle.checks.specs.Checks.{firstFault, sizeChecks, mapChecks, runLists, lentChecks, oneLevelChecks, twoLevelChecks};
+ghost use Rattle.checks.specs.Checks.{firstFault, sizeChecks, mapChecks, runLists, lentChecks, runChecks, lengthsFor};
+ghost use Rattle.theory.specs.Runs.{inputs, one, two};
 
 // Both checks are made, since none writes and a call that passes needs them all; the first fault counts.
 pub fn first_of(first: Check, second: Check) -> Check
@@ -46,7 +47,7 @@ pub fn map_check(
     costs: &[u32],
 ) -> Check
     ensures { λ r.
-        ⌜ r ≡ firstFault (mapChecks n ceiling (source .0) (now (starts .entry)) (now (heads .entry)) (now (costs .entry))) ⌝ }
+        ⌜ r ≡ firstFault (mapChecks (inputs n ceiling (source .0) (now (starts .entry)) (now (heads .entry)) (now (costs .entry)))) ⌝ }
 {
     let sizes = size_check(n, ceiling, source, starts.len(), heads.len(), costs.len());
     let Check::Passed = sizes else {
@@ -67,7 +68,7 @@ fn run_lists_check(
     work: usize,
     needed: usize,
 ) -> Check
-    ensures { λ r. ⌜ r ≡ firstFault (lentChecks 0 (runLists n distances parents roster work needed)) ⌝ }
+    ensures { λ r. ⌜ r ≡ firstFault (lentChecks 0 (runLists n (lengthsFor distances parents roster work) needed)) ⌝ }
 {
     let nodes = n as usize;
     let found = first_of(
@@ -91,8 +92,8 @@ pub fn one_level_check(
     work: usize,
 ) -> Check
     ensures { λ r.
-        ⌜ r ≡ firstFault (oneLevelChecks n ceiling (source .0) (now (starts .entry)) (now (heads .entry)) (now (costs .entry))
-        distances parents roster work) ⌝ }
+        ⌜ r ≡ firstFault (runChecks one (inputs n ceiling (source .0) (now (starts .entry)) (now (heads .entry)) (now (costs .entry)))
+        (lengthsFor distances parents roster work)) ⌝ }
 {
     let needed = 4 * n as usize + 64;
     let map = map_check(n, ceiling, source, starts, heads, costs);
@@ -114,8 +115,8 @@ pub fn two_level_check(
     work: usize,
 ) -> Check
     ensures { λ r.
-        ⌜ r ≡ firstFault (twoLevelChecks n ceiling (source .0) segments (now (starts .entry)) (now (heads .entry)) (now (costs .entry))
-        distances parents roster work) ⌝ }
+        ⌜ r ≡ firstFault (runChecks (two segments) (inputs n ceiling (source .0) (now (starts .entry)) (now (heads .entry)) (now (costs .entry)))
+        (lengthsFor distances parents roster work)) ⌝ }
 {
     let needed = 4 * n as usize + 384;
     let map = map_check(n, ceiling, source, starts, heads, costs);

@@ -11,7 +11,7 @@ use Rattle.cursor.specs.declared.HeaderLine.the-variants.{NoHeader, Head
 -- The three numbers of an arc's line: tail, head, cost (document 01, "Planning file").
 abbrev pub arcOf : Line → ArcLine
 arcOf NoLine = NoArc
-arcOf (Numbers values length) = ArcRead (getD values 0 0) (getD values 1 0) (getD values 2 0) length
+arcOf (Numbers values taken) = ArcRead (getD values 0 0) (getD values 1 0) (getD values 2 0) taken
 
 -- The arc's line at the front of the bytes (document 01, "Planning file").
 unfoldable pub arcLine : List ℕ → ArcLine
@@ -20,8 +20,8 @@ arcLine bytes = arcOf (line comma 3 bytes)
 -- The five numbers of line 1: n, m, C, source, K (document 01, "Planning file").
 abbrev pub headerOf : Line → HeaderLine
 headerOf NoLine = NoHeader
-headerOf (Numbers values length) =
-    HeaderRead (getD values 0 0) (getD values 1 0) (getD values 2 0) (getD values 3 0) (getD values 4 0) length
+headerOf (Numbers values taken) =
+    HeaderRead (getD values 0 0) (getD values 1 0) (getD values 2 0) (getD values 3 0) (getD values 4 0) taken
 
 -- Line 1, at the front of the bytes (document 01, "Planning file").
 unfoldable pub headerLine : List ℕ → HeaderLine

@@ -30,19 +30,19 @@ feed-ends separator count i l h =
 
 abbrev further : (before : ℕ) → LineRead → LineRead
 further before Missing = Missing
-further before (Taken length) = Taken (before + length)
+further before (Taken taken) = Taken (before + taken)
 
 further-none : (read : LineRead) → read ≡ further 0 read
 further-none Missing = refl
-further-none (Taken length) = let e : 0 + length ≡ length = omega arith in ap Taken (sym e)
+further-none (Taken taken) = let e : 0 + taken ≡ taken = omega arith in ap Taken (sym e)
 
 further-twice : (a b : ℕ) (read : LineRead) → further a (further b read) ≡ further (a + b) read
 further-twice a b Missing = refl
-further-twice a b (Taken length) = let e : a + (b + length) ≡ a + b + length = omega arith in ap Taken e
+further-twice a b (Taken taken) = let e : a + (b + taken) ≡ a + b + taken = omega arith in ap Taken e
 
-taken-joined : (value length : ℕ) (behind : Line) → lineTaken (joined value length behind) ≡ further length (lineTaken behind)
-taken-joined value length NoLine = refl
-taken-joined value length (Numbers values more) = refl
+taken-joined : (value taken : ℕ) (behind : Line) → lineTaken (joined value taken behind) ≡ further taken (lineTaken behind)
+taken-joined value taken NoLine = refl
+taken-joined value taken (Numbers values more) = refl
 
 -- ---- after i fields
 
@@ -85,23 +85,23 @@ module _ (separator count : ℕ) (bytes : List ℕ) (at : ℕ) (words₀ : List 
       sym (R .filled ∙ rw (ends-here, words-here, e) (ap (λ (k : List ℕ). take i words ++ k) (sym words-here) ∙ take-append-drop i words)),
     )
 
-    pub read-next : {end value length′ : ℕ} → end ≡ getD ends i 0 → end < 256 → field end (drop next bytes) ≡ Value value length′ → ReadTo (set words i value) (next + length′) (i + 1)
+    pub read-next : {end value taken′ : ℕ} → end ≡ getD ends i 0 → end < 256 → field end (drop next bytes) ≡ Value value taken′ → ReadTo (set words i value) (next + taken′) (i + 1)
     unfolding fields fieldsInto
-    read-next {end} {value} {length′} a byte f = let e = subst (λ (k : ℕ). field k (drop next bytes) ≡ Value value length′) a f in record {
+    read-next {end} {value} {taken′} a byte f = let e = subst (λ (k : ℕ). field k (drop next bytes) ≡ Value value taken′) a f in record {
       some = R .some;
       start = omega (arith, R .start);
       within = behind-within bytes next end byte (R .within) f;
       few = omega arith;
       room = length-set words i value ∙ R .room;
       taken =
-          let sum : next - at + length′ ≡ next + length′ - at = omega (arith, R .start) in
+          let sum : next - at + taken′ ≡ next + taken′ - at = omega (arith, R .start) in
           R .taken
-          ∙ rw (ends-here, e, drop-drop length′ next bytes, taken-joined value length′ (fields (drop (suc i) ends) (drop (next + length′) bytes)))
-          (further-twice (next - at) length′ (lineTaken (fields (drop (suc i) ends) (drop (next + length′) bytes))) ∙ rw (sum, add-one) refl);
+          ∙ rw (ends-here, e, drop-drop taken′ next bytes, taken-joined value taken′ (fields (drop (suc i) ends) (drop (next + taken′) bytes)))
+          (further-twice (next - at) taken′ (lineTaken (fields (drop (suc i) ends) (drop (next + taken′) bytes))) ∙ rw (sum, add-one) refl);
       filled =
           R .filled
-          ∙ rw (ends-here, words-here, e, drop-drop length′ next bytes, add-one, take-suc-set words i value (omega (arith, R .room)), drop-set-lt (suc i) words i value (omega arith))
-          (sym (append-snoc (take i words) value (fieldsInto (drop (suc i) ends) (drop (next + length′) bytes) (drop (suc i) words))));
+          ∙ rw (ends-here, words-here, e, drop-drop taken′ next bytes, add-one, take-suc-set words i value (omega (arith, R .room)), drop-set-lt (suc i) words i value (omega arith))
+          (sym (append-snoc (take i words) value (fieldsInto (drop (suc i) ends) (drop (next + taken′) bytes) (drop (suc i) words))));
     }
 
   pub read-end : {words : List ℕ} {next i : ℕ} → ReadTo words next i → count ≤ i
@@ -119,7 +119,7 @@ module _ (separator count : ℕ) (bytes : List ℕ) (at : ℕ) (words₀ : List 
 
 pub missing-line : (found : Line) → lineTaken found ≡ Missing → found ≡ NoLine
 missing-line NoLine e = refl
-missing-line (Numbers values length) e = absurd (let z : _≡_ {A = ℕ} 0 1 = cc in omega arith)
+missing-line (Numbers values taken) e = absurd (let z : _≡_ {A = ℕ} 0 1 = cc in omega arith)
 
 into-numbers : (ends bytes words values : List ℕ) (taken : ℕ) → length words ≡ length ends → fields ends bytes ≡ Numbers values taken → fieldsInto ends bytes words ≡ values
 unfolding fields fieldsInto

@@ -43,22 +43,22 @@ field end bytes =
 -- The numbers of a line, and the bytes that it takes; or none, if it is ill-formed (document 01, "Planning file").
 pub data Line : Type 0 where
   NoLine : Line
-  Numbers : (values : List ℕ) → (length : ℕ) → Line
+  Numbers : (values : List ℕ) → (taken : ℕ) → Line
 
 -- A field joined to the line behind it.
-abbrev pub joined : (value length : ℕ) → Line → Line
-joined value length NoLine = NoLine
-joined value length (Numbers values more) = Numbers (value ∷ values) (length + more)
+abbrev pub joined : (value taken : ℕ) → Line → Line
+joined value taken NoLine = NoLine
+joined value taken (Numbers values more) = Numbers (value ∷ values) (taken + more)
 
 -- A field, and the line that is read behind the bytes that it takes.
 abbrev pub followed : Field → (behind : ℕ → Line) → Line
 followed NoField behind = NoLine
-followed (Value value length) behind = joined value length (behind length)
+followed (Value value taken) behind = joined value taken (behind taken)
 
 -- Fields one behind the other, each with the byte that ends it (document 01, "Planning file").
 unfoldable pub fields : (ends : List ℕ) → List ℕ → Line
 fields [] bytes = Numbers [] 0
-fields (end ∷ ends) bytes = followed (field end bytes) (λ length. fields ends (drop length bytes))
+fields (end ∷ ends) bytes = followed (field end bytes) (λ taken. fields ends (drop taken bytes))
 
 -- The byte that ends a line (document 01, "Planning file").
 abbrev pub lineFeed : ℕ

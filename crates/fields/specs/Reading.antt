@@ -19,15 +19,15 @@ pub record DigitsRead (bytes : List ℕ) (count value : ℕ) : Type 0 where
 -- The bytes that a line takes (document 01, "Planning file").
 abbrev pub lineTaken : Line → LineRead
 lineTaken NoLine = Missing
-lineTaken (Numbers values length) = Taken length
+lineTaken (Numbers values taken) = Taken taken
 
 -- A field's value in the first of the words, and what is read behind it in the others; without a field the words stay.
 abbrev pub valueInto : Field → (word : ℕ) → (words : List ℕ) → (behind : ℕ → List ℕ) → List ℕ
 valueInto NoField word words behind = word ∷ words
-valueInto (Value value length) word words behind = value ∷ behind length
+valueInto (Value value taken) word words behind = value ∷ behind taken
 
 -- The words with the values of fields one behind the other, up to the first that is ill-formed (document 01, "Planning file").
 unfoldable pub fieldsInto : (ends : List ℕ) → (bytes words : List ℕ) → List ℕ
 fieldsInto [] bytes words = words
 fieldsInto (end ∷ ends) bytes [] = []
-fieldsInto (end ∷ ends) bytes (word ∷ words) = valueInto (field end bytes) word words (λ length. fieldsInto ends (drop length bytes) words)
+fieldsInto (end ∷ ends) bytes (word ∷ words) = valueInto (field end bytes) word words (λ taken. fieldsInto ends (drop taken bytes) words)

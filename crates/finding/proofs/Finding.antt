@@ -7,9 +7,9 @@ use mathlib.Core.Logic.{_≢_, inl, inr}
 use mathlib.Core.List.{List}
 use lib.ListN.{getD}
 use Rattle.theory.proofs.Cases.{split, differ}
-use Rattle.buckets.specs.Words.{places, placeBucket, bucketOf, bucketCount}
+use Rattle.buckets.specs.Words.{places, placeBucket, slotBucket, bucketCount}
 use Rattle.buckets.specs.Words.Laws.{bucket-count, bucket-range}
-use Rattle.buckets.specs.Answer.{InSlot, InBucket, Some, EmptyBucket, FirstOf}
+use Rattle.buckets.specs.Answer.{InSlot, InBucket, Some, EmptyBucket, FirstIn}
 use Rattle.buckets.specs.declared.Found.{Found}
 use Rattle.buckets.specs.declared.Found.the-variants.{At, Nothing}
 use Rattle.model.specs.declared.Node.{Node}
@@ -109,11 +109,11 @@ past-next {k = k} P none =
     )
 
 -- What the test of a slot says.
-pub past-empty : (n K slot : ℕ) (words : List ℕ) (f : Found) → FirstOf n K slot words f → f ≡ Nothing → (w : ℕ) → InSlot n K slot words w → ⊥
-past-empty n K slot words f first e = subst (λ (f : Found). FirstOf n K slot words f) e first
+pub past-empty : (n K slot : ℕ) (words : List ℕ) (f : Found) → FirstIn n K slot words f → f ≡ Nothing → (w : ℕ) → InSlot n K slot words w → ⊥
+past-empty n K slot words f first e = subst (λ (f : Found). FirstIn n K slot words f) e first
 
-pub past-held : (n K slot : ℕ) (words : List ℕ) (f : Found) {v : Node} → FirstOf n K slot words f → f ≡ At v → InSlot n K slot words (v .0)
-past-held n K slot words f first e = subst (λ (f : Found). FirstOf n K slot words f) e first
+pub past-held : (n K slot : ℕ) (words : List ℕ) (f : Found) {v : Node} → FirstIn n K slot words f → f ≡ At v → InSlot n K slot words (v .0)
+past-held n K slot words f first e = subst (λ (f : Found). FirstIn n K slot words f) e first
 
 pub past-below : {n slots K bucket k : ℕ} {words : List ℕ} → Past n slots K words bucket k → slotOf K bucket k < slots
 past-below P = omega (arith, P .low, P .high, P .below)
@@ -123,7 +123,7 @@ module _ {layout : Layout} {words : List ℕ} {bucket : ℕ} (H : InBucketSome l
   K = layout .segments
 
   -- The slot of the node that is known to be there.
-  abbrev known : (s : ℕ) × (s < layout .slots) × (bucketOf K s ≡ bucket) × InSlot (layout .nodes) K s words (H .some .node)
+  abbrev known : (s : ℕ) × (s < layout .slots) × (slotBucket K s ≡ bucket) × InSlot (layout .nodes) K s words (H .some .node)
   known = bucket-slot (H .frontier .linked) (H .some .node) (H .some .holds .0) bucket (H .low) (H .some .holds .1)
 
   known-range : ((bucket - 1) * K ≤ known .0) × (known .0 < (bucket - 1) * K + K)

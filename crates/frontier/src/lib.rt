@@ -11,7 +11,7 @@ use model::Node;
 ghost use mathlib.Core.Path.{_≡_};
 ghost use Prim.Native.Nat.{_<_, _≤_};
 ghost use lib.ListN.{getD};
-ghost use Rattle.buckets.specs.Words.{places, placeWord, bucketOf};
+ghost use Rattle.buckets.specs.Words.{places, placeWord, slotBucket};
 ghost use Rattle.frontier.specs.Frontier.{Frontier, Placed, Current, FirstCurrent, FirstLeft};
 
 // v, which is unlabelled, is put among the nodes at the current key.
@@ -49,7 +49,7 @@ pub fn enter_slot(
 )
     requires { ⌜ Frontier n slots segments (now words) ⌝ }
     requires { ⌜ (v .0 < n) × (getD (places n (now words)) (v .0) 0 ≡ 0) ⌝ }
-    requires { ⌜ (slot < slots) × (bucket ≡ bucketOf segments slot) ⌝ }
+    requires { ⌜ (slot < slots) × (bucket ≡ slotBucket segments slot) ⌝ }
     ensures { λ _. ⌜ Placed n slots segments (now (words .entry)) (now (words .exit)) (v .0) (placeWord segments slot) ⌝ }
 {
     linking::put(words, n, slots, segments, v, bucket, slot);
@@ -85,7 +85,7 @@ pub fn take_first(
     slot: usize,
 ) -> Found
     requires { ⌜ Frontier n slots segments (now words) ⌝ }
-    requires { ⌜ (slot < slots) × (bucket ≡ bucketOf segments slot) ⌝ }
+    requires { ⌜ (slot < slots) × (bucket ≡ slotBucket segments slot) ⌝ }
     ensures { λ r. ⌜ FirstLeft n slots segments slot (now (words .entry)) (now (words .exit)) r ⌝ }
 {
     linking::take_first(words, n, slots, segments, bucket, slot)

@@ -11,7 +11,7 @@ use Rattle.theory.specs.Maps.{none}
 use Rattle.theory.proofs.Cases.{same?}
 use Rattle.fields.specs.Fields.{comma, lineFeed, decimalBy, decimal, renderFields, renderLine}
 use Rattle.fields.proofs.Decimals.{by-digits, one-digit, tenth-length, tenth-below}
-use Rattle.itineraries.specs.Itineraries.{routeLine, lineIfReached, routeLines, wordsIfReached, routeWords, behindCommas, Few}
+use Rattle.itineraries.specs.Itineraries.{routeLine, lineIfReached, routeLines, wordsIfReached, routeFields, behindCommas, Few}
 
 -- ---- digits
 
@@ -141,8 +141,8 @@ unfolding routeLines
 lines-next v distances routes = refl
 
 pub words-next : (v : ℕ) (distances : List ℕ) (routes : ℕ → List ℕ) (words : List ℕ)
-    → wordsIfReached (getD distances v 0) (routes v) (routeWords v distances routes words) ≡ routeWords (suc v) distances routes words
-unfolding routeWords
+    → wordsIfReached (getD distances v 0) (routes v) (routeFields v distances routes words) ≡ routeFields (suc v) distances routes words
+unfolding routeFields
 words-next v distances routes words = refl
 
 pub lines-most : (n : ℕ) (distances : List ℕ) (routes : ℕ → List ℕ) → n ≤ 1000 → ((v : ℕ) → getD distances v 0 < 4294967296)

@@ -4,22 +4,21 @@ use native.Mathlib.Omega.{arith}
 use mathlib.Core.Path.{_≡_, refl, sym, _∙_, ap, ap₂, subst}
 use mathlib.Core.Logic.{inl, inr}
 use mathlib.Core.List.{List, _++_}
-use lib.ListN.{length, getD, take, drop, length-append, List·getD-append}
+use lib.ListN.{length, getD, drop, length-append, List·getD-append}
 use Rattle.model.specs.declared.Check.{Check}
 use Rattle.model.specs.declared.Check.the-variants.{Passed}
 use Rattle.model.specs.declared.RunAnswer.{RunAnswer}
-use Rattle.theory.specs.Maps.{none, Map, mapOf, Valid}
-use Rattle.theory.specs.Shape.{oneLevelBuckets}
+use Rattle.theory.specs.Maps.{none}
 use Rattle.theory.specs.Heap.{Heap}
-use Rattle.theory.specs.Runs.{oneLevelRun}
+use Rattle.theory.specs.Runs.{Inputs, ValidInputs, one, stepsOf}
 use Rattle.theory.proofs.Cases.{same?}
-use Rattle.checks.specs.Checks.{firstFault, oneLevelChecks, oneLevelWork}
-use Rattle.checks.proofs.Valid.{passed-valid, one-level-passed}
-use Rattle.runs.specs.Promise.{Lent, Promised, OneLevelPromised, lent}
+use Rattle.checks.specs.Checks.{firstFault, runChecks}
+use Rattle.checks.proofs.Valid.{passed-ready}
+use Rattle.runs.specs.Promise.{Lent, lent, lengthsOf, Ran, OneLevelPromised}
 use Rattle.fields.specs.Writing.{Writes}
 use Rattle.fields.proofs.Written.{writes-same}
-use Rattle.planning.specs.Planning.{PlanLists}
-use Rattle.itineraries.specs.Itineraries.{lineIfReached, routeLines, wordsIfReached, routeWords, nodesTo, AllRoutable, Runnable, RunListed}
+use Rattle.planning.specs.Planning.{PlanLists, mapInputs}
+use Rattle.itineraries.specs.Itineraries.{lineIfReached, routeLines, nodesTo, runRoute, runLines, wordsIfReached, routeFields, runFields, AllRoutable, ListRunnable, RunListed}
 use Rattle.itineraries.proofs.Lines.{unreached-line, unreached-words}
 use Rattle.itineraries.proofs.Reaching.{nodes-past, reached-routable}
 
@@ -48,29 +47,31 @@ module _ (distances distances′ : List ℕ) (routes routes′ : ℕ → List �
       (ap (λ (k : ℕ). lineIfReached v k (routes v)) (d v (omega arith)) ∙ line-same (getD distances′ v 0) (routes v) (routes′ v) (r v (omega arith)) v)
 
   words-same : (words : List ℕ) (count : ℕ) → ((v : ℕ) → v < count → getD distances v 0 ≡ getD distances′ v 0)
-      → ((v : ℕ) → v < count → (getD distances′ v 0 ≡ none → ⊥) → routes v ≡ routes′ v) → routeWords count distances routes words ≡ routeWords count distances′ routes′ words
-  unfolding routeWords
+      → ((v : ℕ) → v < count → (getD distances′ v 0 ≡ none → ⊥) → routes v ≡ routes′ v) → routeFields count distances routes words ≡ routeFields count distances′ routes′ words
+  unfolding routeFields
   words-same words zero d r = refl
   words-same words (suc v) d r =
       ap₂ (λ (k : ℕ) (l : List ℕ). wordsIfReached k (routes v) l) (d v (omega arith)) (words-same words v (λ w l. d w (omega arith)) (λ w l. r w (omega arith)))
-      ∙ word-same (getD distances′ v 0) (routes v) (routes′ v) (r v (omega arith)) (routeWords v distances′ routes′ words)
+      ∙ word-same (getD distances′ v 0) (routes v) (routes′ v) (r v (omega arith)) (routeFields v distances′ routes′ words)
 
 -- ---- a run that is accepted
 
-module _ (n C source : ℕ) (starts heads costs : List ℕ) (l l′ : Lent) {r : RunAnswer}
-    (passed : firstFault (oneLevelChecks n C source starts heads costs (length (l .distances)) (length (l .parents)) (length (l .roster)) (length (l .work))) ≡ Passed)
-    (P : OneLevelPromised n C source starts heads costs r l l′) where
-  abbrev M : Map
-  M = mapOf n starts heads costs
+module _ (I : Inputs) (l l′ : Lent) {r : RunAnswer} (passed : firstFault (runChecks one I (lengthsOf l)) ≡ Passed) (P : OneLevelPromised I r l l′) where
+  abbrev n : ℕ
+  n = I .map .nodes
 
   abbrev run : Heap
-  run = oneLevelRun M C source
+  run = stepsOf one I
 
-  pub ran : Promised Passed M source (oneLevelBuckets C) (oneLevelBuckets C) (oneLevelWork n) run r l l′
-  ran = subst (λ (k : Check). Promised k M source (oneLevelBuckets C) (oneLevelBuckets C) (oneLevelWork n) run r l l′) passed P
+  -- the nodes of each route by the parents that are lent
+  abbrev lentRoute : ℕ → List ℕ
+  lentRoute = nodesTo n (I .source) (I .map .starts) (I .map .heads) (l′ .parents)
 
-  valid : Valid M C source
-  valid = passed-valid n C source starts heads costs (one-level-passed n C source starts heads costs (length (l .distances)) (length (l .parents)) (length (l .roster)) (length (l .work)) passed .0)
+  pub ran : Ran one I Passed r l l′
+  ran = subst (λ (k : Check). Ran one I k r l l′) passed P
+
+  valid : ValidInputs I
+  valid = passed-ready passed .valid
 
   abbrev past : List ℕ
   past = drop (length (run .search .parents)) (l .parents)
@@ -80,7 +81,7 @@ module _ (n C source : ℕ) (starts heads costs : List ℕ) (l l′ : Lent) {r :
       ap (λ (words : List ℕ). getD words v 0) (ran .distances)
       ∙ List·getD-append (run .search .distances) (drop (length (run .search .distances)) (l .distances)) 0 v (omega (arith, ran .demanded .cheapest .distances-length))
 
-  pub all-routable : n ≤ 512 → AllRoutable n source starts heads (l′ .distances) (l′ .parents)
+  pub all-routable : n ≤ 512 → AllRoutable n (I .source) (I .map .starts) (I .map .heads) (l′ .distances) (l′ .parents)
   all-routable h = record {
     nodes-fit = h;
     distances-fit = omega (
@@ -93,54 +94,42 @@ module _ (n C source : ℕ) (starts heads costs : List ℕ) (l l′ : Lent) {r :
         rw (ran .parents) (reached-routable valid (ran .demanded .cheapest) v node (λ e. q (lent-distance v node ∙ e)) past h);
   }
 
-  lent-nodes : (v : ℕ) → v < n → (getD (run .search .distances) v 0 ≡ none → ⊥)
-      → nodesTo n source starts heads (l′ .parents) v ≡ nodesTo n source starts heads (run .search .parents) v
+  lent-nodes : (v : ℕ) → v < n → (getD (run .search .distances) v 0 ≡ none → ⊥) → lentRoute v ≡ runRoute I v
   lent-nodes v node q =
-      ap (λ (parents : List ℕ). nodesTo n source starts heads parents v) (ran .parents) ∙ nodes-past valid (ran .demanded .cheapest) v node q past
+      ap (λ (parents : List ℕ). nodesTo n (I .source) (I .map .starts) (I .map .heads) parents v) (ran .parents)
+      ∙ nodes-past valid (ran .demanded .cheapest) v node q past
 
-  pub lent-lines : routeLines n (l′ .distances) (nodesTo n source starts heads (l′ .parents))
-      ≡ routeLines n (run .search .distances) (nodesTo n source starts heads (run .search .parents))
-  lent-lines = lines-same (l′ .distances) (run .search .distances) (nodesTo n source starts heads (l′ .parents)) (nodesTo n source starts heads (run .search .parents)) n lent-distance lent-nodes
+  pub lent-lines : routeLines n (l′ .distances) lentRoute ≡ runLines I
+  lent-lines = lines-same (l′ .distances) (run .search .distances) lentRoute (runRoute I) n lent-distance lent-nodes
 
-  pub lent-words : (words : List ℕ) → routeWords n (l′ .distances) (nodesTo n source starts heads (l′ .parents)) words
-      ≡ routeWords n (run .search .distances) (nodesTo n source starts heads (run .search .parents)) words
-  lent-words words = words-same (l′ .distances) (run .search .distances) (nodesTo n source starts heads (l′ .parents)) (nodesTo n source starts heads (run .search .parents)) words n lent-distance lent-nodes
+  pub lent-words : (words : List ℕ) → routeFields n (l′ .distances) lentRoute words ≡ runFields I words
+  lent-words words = words-same (l′ .distances) (run .search .distances) lentRoute (runRoute I) words n lent-distance lent-nodes
 
 -- ---- as the code tells it
 
-module _ (n m C source : ℕ) (L : PlanLists) where
-  abbrev starts : List ℕ
-  starts = take (n + 1) (L .starts)
+-- the lists that are lent to the run
+abbrev lentOf : PlanLists → Lent
+lentOf l = lent (l .distances) (l .parents) (l .roster) (l .work)
 
-  abbrev heads : List ℕ
-  heads = take m (L .heads)
+module _ {n m C source : ℕ} {l : PlanLists} (R : ListRunnable n m C source l) where
+  abbrev I : Inputs
+  I = mapInputs n m C source l
 
-  abbrev costs : List ℕ
-  costs = take m (L .costs)
+  pub run-routable : (l′ : Lent) {r : RunAnswer} → OneLevelPromised I r (lentOf l) l′
+      → AllRoutable n source (I .map .starts) (I .map .heads) (l′ .distances) (l′ .parents)
+  run-routable l′ P = all-routable I (lentOf l) l′ (R .accepted) P (R .nodes-fit)
 
-  abbrev entry : Lent
-  entry = lent (L .distances) (L .parents) (L .roster) (L .work)
-
-  pub run-routable : (l′ : Lent) {r : RunAnswer} → Runnable n m C source L → OneLevelPromised n C source starts heads costs r entry l′
-      → AllRoutable n source starts heads (l′ .distances) (l′ .parents)
-  run-routable l′ R P = all-routable n C source starts heads costs entry l′ (R .accepted) P (R .nodes-fit)
-
-  module _ (L′ : PlanLists) where
-    abbrev exit : Lent
-    exit = lent (L′ .distances) (L′ .parents) (L′ .roster) (L′ .work)
-
-    pub run-listed : {r : RunAnswer} {route route′ output output′ : List ℕ} {written : ℕ} → Runnable n m C source L
-        → OneLevelPromised n C source starts heads costs r entry exit
-        → Writes 0 (routeLines n (L′ .distances) (nodesTo n source starts heads (L′ .parents))) output output′ written
-        → route′ ≡ routeWords n (L′ .distances) (nodesTo n source starts heads (L′ .parents)) route
-        → RunListed n source starts heads costs L L′ route route′ output output′ written (oneLevelRun (mapOf n starts heads costs) C source)
-    run-listed {r} {route} R P W e =
-        let Q = ran n C source starts heads costs entry exit (R .accepted) P in
-        record {
-          text = writes-same (lent-lines n C source starts heads costs entry exit (R .accepted) P) W;
-          distances-after = Q .distances;
-          parents-after = Q .parents;
-          roster-after = Q .roster;
-          work-after = Q .work;
-          route-after = e ∙ lent-words n C source starts heads costs entry exit (R .accepted) P route;
-        }
+  pub run-listed : (l′ : PlanLists) {r : RunAnswer} {route route′ output output′ : List ℕ} {written : ℕ} → OneLevelPromised I r (lentOf l) (lentOf l′)
+      → Writes 0 (routeLines n (l′ .distances) (nodesTo n source (I .map .starts) (I .map .heads) (l′ .parents))) output output′ written
+      → route′ ≡ routeFields n (l′ .distances) (nodesTo n source (I .map .starts) (I .map .heads) (l′ .parents)) route
+      → RunListed I l l′ route route′ output output′ written
+  run-listed l′ {r} {route} P W e =
+      let Q = ran I (lentOf l) (lentOf l′) (R .accepted) P in
+      record {
+        text = writes-same (lent-lines I (lentOf l) (lentOf l′) (R .accepted) P) W;
+        distances-after = Q .distances;
+        parents-after = Q .parents;
+        roster-after = Q .roster;
+        work-after = Q .work;
+        route-after = e ∙ lent-words I (lentOf l) (lentOf l′) (R .accepted) P route;
+      }

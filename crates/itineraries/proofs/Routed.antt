@@ -18,19 +18,19 @@ module _ {n source : ℕ} {starts heads parents : List ℕ} {v : ℕ} {answer : 
   abbrev nodes : List ℕ
   nodes = nodesTo n source starts heads parents v
 
-  given : RouteGiven Passed (routeWalk n source starts heads parents v) answer words words′
-  given =
+  promised : RouteGiven Passed (routeWalk n source starts heads parents v) answer words words′
+  promised =
       subst (λ (k : Check). RouteGiven k (routeWalk n source starts heads parents v) answer words words′)
       (ap (λ (k : ℕ). firstFault (routeChecks n source starts heads parents v k)) room ∙ R .accepted) P
 
   pub found-list : words′ ≡ nodes ++ drop (length nodes) words
-  found-list = given .list
+  found-list = promised .list
 
   pub found-count : {count : ℕ} → answer ≡ Found count → count ≡ length nodes
-  found-count e = ap (λ (k : RouteNumbers). k .nodes) (sym (ap routeNumbersOf e) ∙ given .numbers)
+  found-count e = ap (λ (k : RouteNumbers). k .nodes) (sym (ap routeNumbersOf e) ∙ promised .numbers)
 
   pub found-nodes : {count : ℕ} → answer ≡ Found count → take count words′ ≡ nodes
   found-nodes {count} e = ap (take count) found-list ∙ take-at nodes (drop (length nodes) words) count (sym (found-count e))
 
   pub never-refused : {number place : ℕ} → answer ≡ Refused number place → ⊥
-  never-refused e = omega (arith, ap (λ (k : RouteNumbers). k .nodes) (sym (ap routeNumbersOf e) ∙ given .numbers), R .some)
+  never-refused e = omega (arith, ap (λ (k : RouteNumbers). k .nodes) (sym (ap routeNumbersOf e) ∙ promised .numbers), R .some)

@@ -10,16 +10,17 @@ use lib.ListN.{length, getD}
 use Rattle.model.specs.declared.Check.the-variants.{Passed, Fault}
 use Rattle.theory.specs.Maps.{none, Map, Route, Reached, distanceOf, Valid}
 use Rattle.theory.specs.Heap.{Heap}
+use Rattle.theory.specs.Runs.{Inputs, ValidInputs, one, stepsOf}
 use Rattle.theory.specs.Demands.{CheapestRoutes}
 use Rattle.theory.proofs.Cases.{differ}
-use Rattle.theory.proofs.Demands.{one-level-demanded}
+use Rattle.theory.proofs.Demands.{run-demanded}
 use Rattle.theory.proofs.Maps.Arcs.{leaves-arc}
 use Rattle.route.specs.Routes.{Served}
 use Rattle.reader.specs.Checking.{planCheck}
-use Rattle.reader.specs.Plans.{Header, planHeader, planArcs}
+use Rattle.reader.specs.Plans.{planInputs}
 use Rattle.reader.proofs.Runnable.{read-runnable}
-use Rattle.planning.specs.Planning.{mostBytes, planningCheck, planMap, planOneLevel, planText}
-use Rattle.itineraries.specs.Itineraries.{routeLine, lineIfReached, planRoute, routesText, CheapestLine}
+use Rattle.planning.specs.Planning.{mostBytes, planningCheck, planText}
+use Rattle.itineraries.specs.Itineraries.{routeLine, lineIfReached, runRoute, routesText, CheapestLine}
 use Rattle.itineraries.proofs.Lines.{unreached-line, reached-line}
 use Rattle.itineraries.proofs.Reaching.{getD-any, reached-served}
 
@@ -42,40 +43,40 @@ route-node valid Route.here l = l
 route-node valid (Route.along {v} a h r) l = route-node valid r (valid .heads-nodes a (leaves-arc valid a v h))
 
 module _ (bytes : List ℕ) (accepted : planningCheck bytes ≡ Passed) where
-  abbrev H : Header
-  H = planHeader bytes
+  abbrev I : Inputs
+  I = planInputs bytes
 
   abbrev M : Map
-  M = planMap H (planArcs bytes)
+  M = I .map
 
   abbrev run : Heap
-  run = planOneLevel H (planArcs bytes)
+  run = stepsOf one I
 
-  valid : Valid M (H .ceiling) (H .source)
+  valid : ValidInputs I
   valid = read-runnable bytes 513 2048 2048 (passed-read bytes accepted) .valid
 
-  cheapest : CheapestRoutes M (H .source) (run .search .distances) (run .search .parents)
-  cheapest = one-level-demanded valid .cheapest
+  cheapest : CheapestRoutes M (I .source) (run .search .distances) (run .search .parents)
+  cheapest = run-demanded valid one tt .cheapest
 
   abbrev distance : ℕ → ℕ
   distance v = getD (run .search .distances) v 0
 
-  same-distance : (v : ℕ) → v < H .nodes → distance v ≡ distanceOf (run .search .distances) v
+  same-distance : (v : ℕ) → v < M .nodes → distance v ≡ distanceOf (run .search .distances) v
   same-distance v node = getD-any (run .search .distances) v 0 none (omega (arith, cheapest .distances-length))
 
-  module _ (v : ℕ) (reached : Reached M (H .source) v) where
-    node : v < H .nodes
+  module _ (v : ℕ) (reached : Reached M (I .source) v) where
+    node : v < M .nodes
     node = route-node valid (reached .1) (valid .source-node)
 
     finite : distance v ≡ none → ⊥
     finite e = cheapest .unreached v node .0 (sym (same-distance v node) ∙ e) reached
 
     -- The nodes of the line are those of a route of the map, which costs the distance.
-    pub listed-served : Served M (H .source) (run .search .distances) (run .search .parents) v
+    pub listed-served : Served M (I .source) (run .search .distances) (run .search .parents) v
     listed-served = reached-served valid cheapest v node finite
 
     -- The line of a reached node.
-    pub line-served : CheapestLine M (H .source) v (lineIfReached v (distance v) (planRoute H (planArcs bytes) v))
+    pub line-served : CheapestLine M (I .source) v (lineIfReached v (distance v) (runRoute I v))
     line-served =
         let S = listed-served in
         record {
@@ -83,11 +84,11 @@ module _ (bytes : List ℕ) (accepted : planningCheck bytes ≡ Passed) where
           is-route = S .is-route;
           least = λ other r. omega (arith, S .cost, cheapest .least v other r);
           told =
-              sym (reached-line v (distance v) (planRoute H (planArcs bytes) v) finite)
+              sym (reached-line v (distance v) (runRoute I v) finite)
               ∙ ap₂ (routeLine v) (same-distance v node ∙ sym (S .cost)) (S .nodes);
         }
 
   -- A node that is not reached.
-  pub unreached-unlisted : (v : ℕ) → v < H .nodes → (Reached M (H .source) v → ⊥) → lineIfReached v (distance v) (planRoute H (planArcs bytes) v) ≡ []
+  pub unreached-unlisted : (v : ℕ) → v < M .nodes → (Reached M (I .source) v → ⊥) → lineIfReached v (distance v) (runRoute I v) ≡ []
   unreached-unlisted v node away =
-      sym (unreached-line v (distance v) (planRoute H (planArcs bytes) v) (same-distance v node ∙ cheapest .unreached v node .1 away))
+      sym (unreached-line v (distance v) (runRoute I v) (same-distance v node ∙ cheapest .unreached v node .1 away))

@@ -5,21 +5,21 @@ use mathlib.Core.Bool.{cond}
 use mathlib.Core.Path.{_≡_}
 use mathlib.Core.List.{List, [], _∷_, _++_}
 use lib.Dec.{eqb}
-use lib.ListN.{length, getD, take, drop, replicate}
+use lib.ListN.{length, getD, drop, replicate}
 use Rattle.model.specs.declared.Check.{Check}
 use Rattle.model.specs.declared.Check.the-variants.{Passed, Fault}
 use Rattle.model.specs.Answers.{wordsAfter}
-use Rattle.theory.specs.Maps.{none, Map, mapOf, Route, routeCost}
-use Rattle.theory.specs.Heap.{Heap}
-use Rattle.checks.specs.Checks.{firstFault, oneLevelChecks, oneLevelWork}
+use Rattle.theory.specs.Maps.{none, Map, Route, routeCost}
+use Rattle.theory.specs.Runs.{Inputs, one, workWords, stepsOf}
+use Rattle.checks.specs.Checks.{firstFault, runChecks}
 use Rattle.runs.specs.Promise.{RosterFilled, RosterAfter}
 use Rattle.walk.specs.Walk.{nodesOf, nodesAlong}
 use Rattle.route.specs.Routes.{routeWalk, routeChecks}
 use Rattle.fields.specs.Fields.{comma, decimal, renderLine}
 use Rattle.fields.specs.Writing.{Writes}
-use Rattle.reader.specs.Plans.{Header, PlanArc, planHeader, planArcs, startsOf, headsOf, costsOf}
+use Rattle.reader.specs.Plans.{Header, PlanArc, planHeader, planArcs, startsOf, headsOf, costsOf, planRun}
 use Rattle.report.specs.Report.{refusedText}
-use Rattle.planning.specs.Planning.{planningCheck, planMap, planOneLevel, PlanLists}
+use Rattle.planning.specs.Planning.{planningCheck, PlanLists, mapInputs, planLengths}
 
 -- ---- the text
 
@@ -41,14 +41,17 @@ routeLines (suc v) distances routes = routeLines v distances routes ++ lineIfRea
 abbrev pub nodesTo : (n source : ℕ) → (starts heads parents : List ℕ) → (v : ℕ) → List ℕ
 nodesTo n source starts heads parents v = nodesOf (routeWalk n source starts heads parents v)
 
--- The nodes of the route to node v by the parents of the one-level run of a planning file (document 01, "Routes" and "One-level heap").
-abbrev pub planRoute : Header → List PlanArc → (v : ℕ) → List ℕ
-planRoute header arcs =
-    nodesTo (header .nodes) (header .source) (startsOf (header .nodes) arcs) (headsOf (header .nodes) arcs) (planOneLevel header arcs .search .parents)
+-- The nodes of the route to node v by the parents of the one-level run of these inputs (document 01, "Routes" and "One-level heap").
+abbrev pub runRoute : Inputs → (v : ℕ) → List ℕ
+runRoute I = nodesTo (I .map .nodes) (I .source) (I .map .starts) (I .map .heads) (stepsOf one I .search .parents)
+
+-- The lines of the one-level run of these inputs (document 01, "Routes" and "Planning file").
+abbrev pub runLines : Inputs → List ℕ
+runLines I = routeLines (I .map .nodes) (stepsOf one I .search .distances) (runRoute I)
 
 -- The text for a file whose checks come to `check` (document 01, "Routes" and "Planning file").
 abbrev pub checkedRoutes : Check → Header → List PlanArc → List ℕ
-checkedRoutes Passed header arcs = routeLines (header .nodes) (planOneLevel header arcs .search .distances) (planRoute header arcs)
+checkedRoutes Passed header arcs = runLines (planRun header arcs)
 checkedRoutes (Fault number place) header arcs = refusedText number place
 
 -- What `routes` prints (document 01, "Routes" and "Planning file").
@@ -63,13 +66,17 @@ unfoldable pub wordsIfReached : (distance : ℕ) → (nodes words : List ℕ) �
 wordsIfReached distance nodes words = cond (eqb distance none) words (nodes ++ drop (length nodes) words)
 
 -- The route list behind the routes of the first nodes, each written over those before it (document 01, "Routes").
-unfoldable pub routeWords : (count : ℕ) → (distances : List ℕ) → (routes : ℕ → List ℕ) → (words : List ℕ) → List ℕ
-routeWords zero distances routes words = words
-routeWords (suc v) distances routes words = wordsIfReached (getD distances v 0) (routes v) (routeWords v distances routes words)
+unfoldable pub routeFields : (count : ℕ) → (distances : List ℕ) → (routes : ℕ → List ℕ) → (words : List ℕ) → List ℕ
+routeFields zero distances routes words = words
+routeFields (suc v) distances routes words = wordsIfReached (getD distances v 0) (routes v) (routeFields v distances routes words)
+
+-- The route list behind the routes of the one-level run of these inputs (document 01, "Routes").
+abbrev pub runFields : Inputs → (words : List ℕ) → List ℕ
+runFields I words = routeFields (I .map .nodes) (stepsOf one I .search .distances) (runRoute I) words
 
 -- The route list afterwards; a refusal leaves all words (document 01, "What a call returns").
 abbrev pub checkedWords : Check → Header → List PlanArc → (words : List ℕ) → List ℕ
-checkedWords Passed header arcs words = routeWords (header .nodes) (planOneLevel header arcs .search .distances) (planRoute header arcs) words
+checkedWords Passed header arcs words = runFields (planRun header arcs) words
 checkedWords (Fault number place) header arcs words = words
 
 -- The text is written, and the lists hold the map, what the one-level run gives back, and the routes; the order of equal distances in the
@@ -79,10 +86,10 @@ pub record Listed (check : Check) (header : Header) (arcs : List PlanArc) (l l�
   pub starts-after : l′ .starts ≡ wordsAfter check (startsOf (header .nodes) arcs) (l .starts)
   pub heads-after : l′ .heads ≡ wordsAfter check (headsOf (header .nodes) arcs) (l .heads)
   pub costs-after : l′ .costs ≡ wordsAfter check (costsOf (header .nodes) arcs) (l .costs)
-  pub distances-after : l′ .distances ≡ wordsAfter check (planOneLevel header arcs .search .distances) (l .distances)
-  pub parents-after : l′ .parents ≡ wordsAfter check (planOneLevel header arcs .search .parents) (l .parents)
-  pub roster-after : RosterAfter check (planMap header arcs) (header .source) (planOneLevel header arcs) (l .roster) (l′ .roster)
-  pub work-after : l′ .work ≡ wordsAfter check (replicate (oneLevelWork (header .nodes)) 0) (l .work)
+  pub distances-after : l′ .distances ≡ wordsAfter check (stepsOf one (planRun header arcs) .search .distances) (l .distances)
+  pub parents-after : l′ .parents ≡ wordsAfter check (stepsOf one (planRun header arcs) .search .parents) (l .parents)
+  pub roster-after : RosterAfter check (planRun header arcs .map) (header .source) (stepsOf one (planRun header arcs)) (l .roster) (l′ .roster)
+  pub work-after : l′ .work ≡ wordsAfter check (replicate (workWords one (header .nodes)) 0) (l .work)
   pub route-after : route′ ≡ checkedWords check header arcs route
 
 -- From bytes to bytes, for every input (document 01, "Planning file" and "What a call returns").
@@ -131,7 +138,7 @@ pub record AllRoutable (n source : ℕ) (starts heads distances parents : List �
 
 -- The words that `routes` lends of each list, and the bytes of its output: 512 lines, and 32 more, since a number is written where 20 bytes
 -- are free (document 01, "Planning file").
-pub record Lends (l : PlanLists) (route output : List ℕ) : Type 0 where
+pub record ListLends (l : PlanLists) (route output : List ℕ) : Type 0 where
   pub starts-words : length (l .starts) ≡ 513
   pub heads-words : length (l .heads) ≡ 2048
   pub costs-words : length (l .costs) ≡ 2048
@@ -143,18 +150,18 @@ pub record Lends (l : PlanLists) (route output : List ℕ) : Type 0 where
   pub output-bytes : length output ≡ 1056800
 
 -- A map that has been read into the lists, which the one-level run accepts (document 01, "Planning file").
-pub record Runnable (n m C source : ℕ) (l : PlanLists) : Type 0 where
+pub record ListRunnable (n m C source : ℕ) (l : PlanLists) : Type 0 where
   pub starts-fit : n + 1 ≤ length (l .starts)
   pub heads-fit : m ≤ length (l .heads)
   pub costs-fit : m ≤ length (l .costs)
   pub nodes-fit : n ≤ 512
-  pub accepted : firstFault (oneLevelChecks n C source (take (n + 1) (l .starts)) (take m (l .heads)) (take m (l .costs)) (length (l .distances)) (length (l .parents)) (length (l .roster)) (length (l .work))) ≡ Passed
+  pub accepted : firstFault (runChecks one (mapInputs n m C source l) (planLengths l)) ≡ Passed
 
--- The one-level run of the map in the lists is made, and its routes are written (document 01, "Routes" and "One-level heap").
-pub record RunListed (n source : ℕ) (starts heads costs : List ℕ) (l l′ : PlanLists) (route route′ output output′ : List ℕ) (written : ℕ) (h : Heap) : Type 0 where
-  pub text : Writes 0 (routeLines n (h .search .distances) (nodesTo n source starts heads (h .search .parents))) output output′ written
-  pub distances-after : l′ .distances ≡ wordsAfter Passed (h .search .distances) (l .distances)
-  pub parents-after : l′ .parents ≡ wordsAfter Passed (h .search .parents) (l .parents)
-  pub roster-after : RosterFilled (mapOf n starts heads costs) source h (l .roster) (l′ .roster)
-  pub work-after : l′ .work ≡ wordsAfter Passed (replicate (oneLevelWork n) 0) (l .work)
-  pub route-after : route′ ≡ routeWords n (h .search .distances) (nodesTo n source starts heads (h .search .parents)) route
+-- The one-level run of these inputs is made, and its routes are written (document 01, "Routes" and "One-level heap").
+pub record RunListed (I : Inputs) (l l′ : PlanLists) (route route′ output output′ : List ℕ) (written : ℕ) : Type 0 where
+  pub text : Writes 0 (runLines I) output output′ written
+  pub distances-after : l′ .distances ≡ wordsAfter Passed (stepsOf one I .search .distances) (l .distances)
+  pub parents-after : l′ .parents ≡ wordsAfter Passed (stepsOf one I .search .parents) (l .parents)
+  pub roster-after : RosterFilled (I .map) (I .source) (stepsOf one I) (l .roster) (l′ .roster)
+  pub work-after : l′ .work ≡ wordsAfter Passed (replicate (workWords one (I .map .nodes)) 0) (l .work)
+  pub route-after : route′ ≡ runFields I route

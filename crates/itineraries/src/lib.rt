@@ -8,13 +8,12 @@ use reader::PlanAnswer;
 use route::RouteAnswer;
 ghost use mathlib.Core.Path.{_≡_};
 ghost use Prim.Native.Nat.{_+_, _*_, _≤_, _<_};
-ghost use lib.ListN.{length, take};
-ghost use Rattle.theory.specs.Maps.{none, mapOf};
-ghost use Rattle.theory.specs.Runs.{oneLevelRun};
+ghost use lib.ListN.{length};
+ghost use Rattle.theory.specs.Maps.{none};
 ghost use Rattle.fields.specs.Writing.{Writes};
-ghost use Rattle.planning.specs.Planning.{planLists};
-ghost use Rattle.itineraries.specs.Itineraries.{routeLine, lineIfReached, routeLines, nodesTo, wordsIfReached, routeWords, behindCommas};
-ghost use Rattle.itineraries.specs.Itineraries.{lineBytes, Few, Routable, AllRoutable, Lends, Runnable, RunListed, ItinerariesPromised};
+ghost use Rattle.planning.specs.Planning.{planLists, mapInputs};
+ghost use Rattle.itineraries.specs.Itineraries.{routeLine, lineIfReached, routeLines, nodesTo, wordsIfReached, routeFields, behindCommas};
+ghost use Rattle.itineraries.specs.Itineraries.{lineBytes, Few, Routable, AllRoutable, ListLends, ListRunnable, RunListed, ItinerariesPromised};
 
 // The nodes of a route, each behind a comma.
 fn put_nodes(output: &mut [u8], at: usize, nodes: &[u32]) -> usize
@@ -96,7 +95,7 @@ fn write_routes(
         (routeLines n (now (distances .entry)) (nodesTo n (source .0) (now (starts .entry)) (now (heads .entry)) (now (parents .entry))))
         (now (output .entry)) (now (output .exit)) r ⌝ }
     ensures list { λ _. ⌜ now (route .exit)
-        ≡ routeWords n (now (distances .entry)) (nodesTo n (source .0) (now (starts .entry)) (now (heads .entry)) (now (parents .entry))) (now (route .entry)) ⌝ }
+        ≡ routeFields n (now (distances .entry)) (nodesTo n (source .0) (now (starts .entry)) (now (heads .entry)) (now (parents .entry))) (now (route .entry)) ⌝ }
 {
     let mut next = 0;
     let mut v = 0;
@@ -135,14 +134,15 @@ fn list_map(
     route: &mut [u32],
     output: &mut [u8],
 ) -> usize
-    requires { ⌜ Runnable nodes arcs ceiling (source .0)
+    requires { ⌜ ListRunnable nodes arcs ceiling (source .0)
         (planLists (now starts) (now heads) (now costs) (now distances) (now parents) (now roster) (now work)) ⌝ }
     requires { ⌜ (length (now route) ≡ 512) × (length (now output) ≡ 1056800) ⌝ }
-    ensures { λ r. ⌜ RunListed nodes (source .0) (take (nodes + 1) (now (starts .entry))) (take arcs (now (heads .entry))) (take arcs (now (costs .entry)))
+    ensures { λ r. ⌜ RunListed
+        (mapInputs nodes arcs ceiling (source .0)
+        (planLists (now (starts .entry)) (now (heads .entry)) (now (costs .entry)) (now (distances .entry)) (now (parents .entry)) (now (roster .entry)) (now (work .entry))))
         (planLists (now (starts .entry)) (now (heads .entry)) (now (costs .entry)) (now (distances .entry)) (now (parents .entry)) (now (roster .entry)) (now (work .entry)))
         (planLists (now (starts .entry)) (now (heads .entry)) (now (costs .entry)) (now (distances .exit)) (now (parents .exit)) (now (roster .exit)) (now (work .exit)))
-        (now (route .entry)) (now (route .exit)) (now (output .entry)) (now (output .exit)) r
-        (oneLevelRun (mapOf nodes (take (nodes + 1) (now (starts .entry))) (take arcs (now (heads .entry))) (take arcs (now (costs .entry)))) ceiling (source .0)) ⌝ }
+        (now (route .entry)) (now (route .exit)) (now (output .entry)) (now (output .exit)) r ⌝ }
 {
     let n = nodes as usize;
     let m = arcs as usize;
@@ -186,7 +186,7 @@ fn answer_in(
     route: &mut [u32],
     output: &mut [u8],
 ) -> usize
-    requires { ⌜ Lends (planLists (now starts) (now heads) (now costs) (now distances) (now parents) (now roster) (now work)) (now route) (now output) ⌝ }
+    requires { ⌜ ListLends (planLists (now starts) (now heads) (now costs) (now distances) (now parents) (now roster) (now work)) (now route) (now output) ⌝ }
     ensures { λ r. ⌜ ItinerariesPromised (now (bytes .entry))
         (planLists (now (starts .entry)) (now (heads .entry)) (now (costs .entry)) (now (distances .entry)) (now (parents .entry)) (now (roster .entry)) (now (work .entry)))
         (planLists (now (starts .exit)) (now (heads .exit)) (now (costs .exit)) (now (distances .exit)) (now (parents .exit)) (now (roster .exit)) (now (work .exit)))

@@ -4,7 +4,7 @@ use model::Node;
 ghost use mathlib.Core.Path.{_≡_};
 ghost use Prim.Native.Nat.{_+_, _-_, _*_, _≤_, _<_};
 ghost use lib.ListN.{length, getD};
-ghost use Rattle.buckets.specs.Words.{bucketOf, placeWord, placeBucket, nodeOr, Held, Free, places, bucketCount, countAt, recount, Fits};
+ghost use Rattle.buckets.specs.Words.{slotBucket, placeWord, placeBucket, nodeOr, Held, Free, places, bucketCount, countAt, recount, WordsFit};
 ghost use Rattle.buckets.specs.Links.{Chains, Linked, Relinked, Moved};
 ghost use Rattle.buckets.specs.Answer.{FirstTaken};
 
@@ -58,9 +58,9 @@ fn link(
     bucket: usize,
     slot: usize,
 )
-    requires { ⌜ Fits n slots segments (length (now words)) ⌝ }
+    requires { ⌜ WordsFit n slots segments (length (now words)) ⌝ }
     requires { ⌜ Chains n slots segments (now words) ⌝ }
-    requires { ⌜ (v < n) × (slot < slots) × (bucket ≡ bucketOf segments slot) ⌝ }
+    requires { ⌜ (v < n) × (slot < slots) × (bucket ≡ slotBucket segments slot) ⌝ }
     requires { ⌜ Free (getD (places n (now words)) v 0) ⌝ }
     ensures { λ _. ⌜ Relinked n slots segments (now (words .entry)) (now (words .exit)) v (placeWord segments slot) ⌝ }
 {
@@ -76,7 +76,7 @@ fn link(
 
 // Node v leaves the slot that holds it, where `before` is its before word.
 fn unlink(words: &mut [u32], n: usize, slots: usize, segments: usize, v: usize, before: usize)
-    requires { ⌜ Fits n slots segments (length (now words)) ⌝ }
+    requires { ⌜ WordsFit n slots segments (length (now words)) ⌝ }
     requires { ⌜ Chains n slots segments (now words) ⌝ }
     requires { ⌜ (v < n) × (before ≡ getD (now words) (n + v) 0) ⌝ }
     requires { ⌜ Held (getD (places n (now words)) v 0) ⌝ }
@@ -100,7 +100,7 @@ pub fn put(
     slot: usize,
 )
     requires { ⌜ Linked n slots segments (now words) ⌝ }
-    requires { ⌜ (v .0 < n) × (slot < slots) × (bucket ≡ bucketOf segments slot) ⌝ }
+    requires { ⌜ (v .0 < n) × (slot < slots) × (bucket ≡ slotBucket segments slot) ⌝ }
     requires { ⌜ Free (getD (places n (now words)) (v .0) 0) ⌝ }
     ensures { λ _. ⌜ Moved n slots segments (now (words .entry)) (now (words .exit)) (v .0) (placeWord segments slot) ⌝ }
 {
@@ -132,7 +132,7 @@ pub fn take_first(
     slot: usize,
 ) -> Found
     requires { ⌜ Linked n slots segments (now words) ⌝ }
-    requires { ⌜ (slot < slots) × (bucket ≡ bucketOf segments slot) ⌝ }
+    requires { ⌜ (slot < slots) × (bucket ≡ slotBucket segments slot) ⌝ }
     ensures { λ r. ⌜ FirstTaken n slots segments slot (now (words .entry)) (now (words .exit)) r ⌝ }
 {
     let head = 4 * n + 32 + slot;

@@ -14,14 +14,19 @@ pub enum Check {
     Fault { number: u32, place: usize },
 }
 
+// The counts that a run gives back: a further count is a field here.
+pub struct Counts {
+    pub decreases: u32,
+    pub placements: u32,
+    pub looks: u32,
+}
+
 // What a run gives back.
 pub enum RunAnswer {
     Accepted {
         reached: u32,
         buckets: u32,
-        decreases: u32,
-        placements: u32,
-        looks: u32,
+        counts: Counts,
     },
     Refused {
         number: u32,
@@ -29,21 +34,13 @@ pub enum RunAnswer {
     },
 }
 
-pub fn accepted_run(
-    reached: u32,
-    buckets: u32,
-    decreases: u32,
-    placements: u32,
-    looks: u32,
-) -> RunAnswer
-    ensures { λ r. ⌜ numbersOf r ≡ acceptedNumbers reached buckets decreases placements looks ⌝ }
+pub fn accepted_run(reached: u32, buckets: u32, counts: Counts) -> RunAnswer
+    ensures { λ r. ⌜ numbersOf r ≡ acceptedNumbers reached buckets counts ⌝ }
 {
     RunAnswer::Accepted {
         reached,
         buckets,
-        decreases,
-        placements,
-        looks,
+        counts,
     }
 }
 

@@ -9,7 +9,7 @@ use lib.Seq.{getD-drop}
 use borrow.Author.Tests.{eq-eqb, ne-eqb}
 use Rattle.theory.specs.Heap.{bound, bucketFrom}
 use Rattle.bounds.specs.Words.{boundsOf, segmentNumber}
-use Rattle.buckets.specs.Words.{placeWord, bucketOf}
+use Rattle.buckets.specs.Words.{placeWord, slotBucket}
 use Rattle.frontier.specs.Frontier.{Placed}
 use Rattle.state.specs.declared.Layout.{Layout}
 use Rattle.state.specs.Places.{isWord}
@@ -52,7 +52,7 @@ module _ {layout : Layout} {sizes words : List ℕ} {front v key start : ℕ} (E
       pub segment-low : 1 ≤ k
       segment-low = fits .low
 
-      pub in-bucket : b ≡ bucketOf K (slotOf K b k)
+      pub in-bucket : b ≡ slotBucket K (slotOf K b k)
       in-bucket = sym (slot-bucket fits)
 
       pub in-slots : slotOf K b k < layout .slots

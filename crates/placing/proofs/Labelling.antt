@@ -13,9 +13,9 @@ use Rattle.theory.specs.Search.{Mark, unlabelled, labelled, scanned, mark, belo
 use Rattle.theory.specs.Heap.{Heap, bound, bucketOf, keyOf, segmentOf, searchStart, heapLabel}
 use Rattle.theory.proofs.Cases.{mark-cases, split}
 use Rattle.theory.proofs.Sums.{sum-mono, sum-ones}
-use Rattle.theory.proofs.Heap.Laws.{Lawful}
-use Rattle.theory.proofs.Heap.Bounds.{Bounds}
-use Rattle.theory.proofs.Heap.Buckets.{Fits, late-range}
+use Rattle.theory.specs.Lawful.{Lawful}
+use Rattle.theory.specs.Invariants.{Bounds, Fits}
+use Rattle.theory.proofs.Heap.Buckets.{late-range}
 use Rattle.bounds.specs.Words.{boundsOf}
 use Rattle.bounds.proofs.Segments.{number-whole}
 use Rattle.buckets.specs.Words.{places}
@@ -26,11 +26,13 @@ use Rattle.state.specs.declared.State.{State}
 use Rattle.state.specs.Places.{isWord}
 use Rattle.state.specs.Slots.{slotWord, keyWord, SlotFits, Enters}
 use Rattle.state.specs.Stands.{Setting, Lists, Stands}
+use Rattle.state.specs.Tallies.{insertion, decrease, afterEvent}
 use Rattle.state.proofs.Places.Label.{place-is}
 use Rattle.state.proofs.Slots.{word-far, slot-bucket, slot-below, key-fits}
 use Rattle.state.proofs.Find.{isWord-low, isWord-other}
 use Rattle.state.proofs.Label.{bound-word, Counting, label-enters, label-stands}
 use Rattle.placing.specs.Placing.{Formed, Entering, Entered, Standing, lists, Labels}
+use Rattle.state.proofs.Tallies.{label-insertion, label-decrease}
 
 -- A key that fits its bucket is at most the end of its segment.
 key-end : {sh : Shape} {C S last : ℕ} {u : List ℕ} → Lawful sh C S → Bounds sh last u → {b x : ℕ} → Fits sh u b x → last ≤ x → x ≤ sh .end b (bound u b) (sh .segment b (bound u b) x)
@@ -130,10 +132,9 @@ module _ {layout : Layout} {sizes : List ℕ} {X : Setting layout sizes} {before
   }
 
   pub fresh-stands : place ≡ 0 → {w′ : List ℕ} {r : ℕ} → Entered layout sizes (l .words) w′ (s .front) v x B r → {s′ : State} (a : ℕ)
-      → s′ .front ≡ s .front → s′ .current ≡ s .current + r → s′ .reached ≡ s .reached → s′ .tally .insertions ≡ s .tally .insertions + 1
-      → s′ .tally .decreases ≡ s .tally .decreases → s′ .tally .shifts ≡ s .tally .shifts → s′ .tally .looks ≡ s .tally .looks
+      → s′ .front ≡ s .front → s′ .current ≡ s .current + r → s′ .reached ≡ s .reached → s′ .tally ≡ afterEvent insertion (s .tally)
       → Stands layout sh before (heapLabel sh v x a h) (lists w′ (set (l .distances) v x) (set (l .parents) v a) (l .roster)) s′
-  fresh-stands e {w′} {r} E {s′} a f c q i d t k =
+  fresh-stands e {w′} {r} E {s′} a f c q t =
       let on = fresh e in
       let st = start-fresh on in
       label-stands X T (L .inv) (L .labelling) (L .late) (boundsOf n (l .words)) (bound-word T) (rw st (E .placed)) a
@@ -141,10 +142,7 @@ module _ {layout : Layout} {sizes : List ℕ} {X : Setting layout sizes} {before
         front = f;
         current = c ∙ ap (λ (k : ℕ). s .current + k) (E .counted ∙ (rw st));
         reached = q;
-        insertions = i ∙ (rw on);
-        decreases = d ∙ (rw on (omega arith));
-        shifts = t;
-        looks = k;
+        tally = t ∙ (rw on (label-insertion (s .tally)));
       })
 
   -- A labelled node stands in its slot, and its key falls below the end of its segment.
@@ -171,10 +169,9 @@ module _ {layout : Layout} {sizes : List ℕ} {X : Setting layout sizes} {before
 
   -- A labelled node whose place word is still that of its key: the words stay as they are.
   pub stays-stands : place ≢ 0 → keyWord B K sizes (boundsOf n (l .words)) (s .front) x (place / 512) ≡ place → {s′ : State} (a : ℕ)
-      → s′ .front ≡ s .front → s′ .current ≡ s .current → s′ .reached ≡ s .reached → s′ .tally .insertions ≡ s .tally .insertions
-      → s′ .tally .decreases ≡ s .tally .decreases + 1 → s′ .tally .shifts ≡ s .tally .shifts → s′ .tally .looks ≡ s .tally .looks
+      → s′ .front ≡ s .front → s′ .current ≡ s .current → s′ .reached ≡ s .reached → s′ .tally ≡ afterEvent decrease (s .tally)
       → Stands layout sh before (heapLabel sh v x a h) (lists (l .words) (set (l .distances) v x) (set (l .parents) v a) (l .roster)) s′
-  stays-stands e stays {s′} a f c q i d t k =
+  stays-stands e stays {s′} a f c q t =
       let on = held e in
       let st : searchStart sh (mark (h .search) v) (bucketOf h v) ≡ place / 512 = start-held on ∙ sym (held-bucket e) in
       let P : Placed n (layout .slots) K (l .words) (l .words) v place = placed-same (T .frontier) v in
@@ -183,10 +180,7 @@ module _ {layout : Layout} {sizes : List ℕ} {X : Setting layout sizes} {before
         front = f;
         current = omega (arith, c, ap (isWord 1) (ap (keyWord B K sizes (boundsOf n (l .words)) (s .front) x) st ∙ stays), isWord-other 1 place (λ z. omega (arith, held-far e)));
         reached = q;
-        insertions = i ∙ (rw on (omega arith));
-        decreases = d ∙ (rw on);
-        shifts = t;
-        looks = k;
+        tally = t ∙ (rw on (label-decrease (s .tally)));
       })
 
   -- A labelled node, when it has left its slot.
@@ -207,18 +201,14 @@ module _ {layout : Layout} {sizes : List ℕ} {X : Setting layout sizes} {before
     }
 
     pub held-stands : {w₂ : List ℕ} {r : ℕ} → Entered layout sizes w₁ w₂ (s .front) v x start r → {s′ : State} (a : ℕ)
-        → s′ .front ≡ s .front → s′ .current ≡ s .current + r → s′ .reached ≡ s .reached → s′ .tally .insertions ≡ s .tally .insertions
-        → s′ .tally .decreases ≡ s .tally .decreases + 1 → s′ .tally .shifts ≡ s .tally .shifts → s′ .tally .looks ≡ s .tally .looks
+        → s′ .front ≡ s .front → s′ .current ≡ s .current + r → s′ .reached ≡ s .reached → s′ .tally ≡ afterEvent decrease (s .tally)
         → Stands layout sh before (heapLabel sh v x a h) (lists w₂ (set (l .distances) v x) (set (l .parents) v a) (l .roster)) s′
-    held-stands {w₂} {r} E {s′} a f c q i d t k =
+    held-stands {w₂} {r} E {s′} a f c q t =
         let on = held e in
         label-stands X T (L .inv) (L .labelling) (L .late) (boundsOf n w₁) read (rw same-start (placed-again P (E .placed))) a
         (record {
           front = f;
           current = c ∙ ap (λ (k : ℕ). s .current + k) (E .counted ∙ (rw same-start));
           reached = q;
-          insertions = i ∙ (rw on (omega arith));
-          decreases = d ∙ (rw on);
-          shifts = t;
-          looks = k;
+          tally = t ∙ (rw on (label-decrease (s .tally)));
         })

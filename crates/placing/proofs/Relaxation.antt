@@ -13,12 +13,14 @@ use Rattle.theory.specs.Network.{Link, Network}
 use Rattle.theory.specs.Search.{Mark, unlabelled, labelled, scanned, mark, distance, below, improves}
 use Rattle.theory.specs.Heap.{Heap, heapLabel, heapRelax}
 use Rattle.theory.proofs.Sums.{sum-mono, sum-ones}
-use Rattle.theory.proofs.Search.Invariant.{SearchInv, Scanning, known, known-low, linksOf, sums-finite}
+use Rattle.theory.proofs.Search.Invariant.{known-low, sums-finite}
+use Rattle.theory.specs.Invariants.{SearchInv, Scanning, known, linksOf, Relaxing}
 use Rattle.theory.proofs.Search.Relaxing.{head-node, sum-few}
-use Rattle.theory.proofs.Heap.Run.{Relaxing, improving}
+use Rattle.theory.proofs.Heap.Run.{improving}
 use Rattle.state.specs.declared.Layout.{Layout}
 use Rattle.state.specs.declared.State.{State}
 use Rattle.state.specs.Stands.{Setting, Lists, Stands}
+use Rattle.state.proofs.Tallies.{same-insertions, same-decreases}
 use Rattle.theory.proofs.Lists.{getD-inside}
 use Rattle.placing.specs.Placing.{Labels, Relaxes}
 
@@ -73,8 +75,8 @@ module _ {layout : Layout} {sizes : List ℕ} {X : Setting layout sizes} {before
     labelling = improving (X .admissible) (X .lawful) (X .room) (R .member) scanning (improved less);
     late = omega arith;
     parents-long = ap length (R .stands .parents) ∙ scanning .inv .parents-length ∙ X .nodes;
-    insertions-few = omega (arith, R .stands .insertions, counts .0);
-    decreases-few = omega (arith, R .stands .decreases, counts .1);
+    insertions-few = omega (arith, same-insertions (R .stands .tally), counts .0);
+    decreases-few = omega (arith, same-decreases (R .stands .tally), counts .1);
   }
 
   pub relaxed-label : s .front + l .cost < getD (lists .distances) (l .head) 0 → heapLabel (X .shape) (l .head) (s .front + l .cost) (l .arc) h ≡ heapRelax (X .shape) (s .front) l h

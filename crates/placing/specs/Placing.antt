@@ -6,9 +6,7 @@ use mathlib.Core.List.{List, _∷_, List·Memᴰ}
 use lib.ListN.{length, getD}
 use Rattle.theory.specs.Network.{Link}
 use Rattle.theory.specs.Heap.{Heap}
-use Rattle.theory.proofs.Heap.Invariant.{HeapInv}
-use Rattle.theory.proofs.Heap.Label.{Labelling}
-use Rattle.theory.proofs.Heap.Run.{Relaxing}
+use Rattle.theory.specs.Invariants.{HeapInv, Labelling, Relaxing}
 use Rattle.bounds.specs.Words.{boundsOf, segmented, segmentEnd, Sized}
 use Rattle.buckets.specs.Words.{places}
 use Rattle.frontier.specs.Frontier.{Frontier, Placed}

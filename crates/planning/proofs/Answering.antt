@@ -1,11 +1,10 @@
 -- From what the reader and the runs give to the whole answer. Assumes nothing.
-use Prim.Native.Nat.{ℕ, suc, _+_, _*_, _≤_, _<_}
+use Prim.Native.Nat.{ℕ, _+_, _≤_, _<_}
 use native.Mathlib.Omega.{arith}
 use native.Mathlib.Numerals.{add-one}
-use mathlib.Core.Bool.{Bool, true, false, cond}
-use mathlib.Core.Path.{_≡_, refl, sym, _∙_, ap, subst}
-use mathlib.Core.List.{List, [], _∷_, _++_}
-use lib.Dec.{ltb}
+use mathlib.Core.Bool.{true, false}
+use mathlib.Core.Path.{_≡_, refl, sym, _∙_, ap}
+use mathlib.Core.List.{List}
 use lib.ListN.{length, take, drop}
 use lib.Seq.{take-at}
 use borrow.Author.Tests.{lt-ltb, le-ltb}
@@ -13,26 +12,19 @@ use Rattle.model.specs.declared.Check.{Check}
 use Rattle.model.specs.declared.Check.the-variants.{Passed, Fault}
 use Rattle.model.specs.declared.Node.{Node}
 use Rattle.model.specs.Answers.{wordsAfter}
-use Rattle.theory.specs.Maps.{mapOf, Valid}
-use Rattle.theory.specs.Runs.{oneLevelRun, twoLevelRun}
+use Rattle.theory.specs.Runs.{Levels, one, two, Allowed, workWords}
 use Rattle.theory.proofs.Cases.{differ}
-use Rattle.checks.specs.Checks.{firstFault, lentChecks, oneLevelWork, twoLevelWork}
-use Rattle.checks.proofs.Order.{AllPass, none, more, passed-all}
-use Rattle.checks.proofs.Sizes.{passed-lent}
+use Rattle.checks.specs.Checks.{firstFault, runChecks}
 use Rattle.fields.specs.Writing.{Writes}
 use Rattle.fields.proofs.Written.{writes-inside}
 use Rattle.reader.specs.declared.PlanAnswer.{PlanAnswer}
 use Rattle.reader.specs.declared.PlanAnswer.the-variants.{Read, Refused}
-use Rattle.cursor.specs.declared.HeaderLine.{HeaderLine}
-use Rattle.cursor.specs.declared.HeaderLine.the-variants.{NoHeader, HeaderRead}
-use Rattle.cursor.specs.Lines.{headerLine}
-use Rattle.reader.specs.Checking.{headerChecks, arcsCheck, headerLineCheck, planCheck}
-use Rattle.reader.specs.Plans.{Header, PlanArc, headerNumbers, planHeader, planArcs, planStarts, planHeads, planCosts}
+use Rattle.reader.specs.Checking.{planCheck}
+use Rattle.reader.specs.Plans.{Header, PlanArc, planHeader, planArcs, planStarts, planHeads, planCosts}
 use Rattle.reader.specs.Promise.{PlanNumbers, planNumbers, planNumbersOf, wasRead, allPassed, PlanPromised}
-use Rattle.reader.proofs.Runnable.{read-runnable, runs-one-level, runs-two-level}
-use Rattle.reader.proofs.Runnable as reading
+use Rattle.reader.proofs.Runnable.{Runnable, read-runnable, runs-pass, file-allowed}
 use Rattle.report.specs.Report.{refusedText}
-use Rattle.planning.specs.Planning.{mostBytes, planningCheck, PlanLists, planLists, Answered, PlanningPromised, Lends, Runnable, BothRun}
+use Rattle.planning.specs.Planning.{planningCheck, PlanLists, planLists, Answered, PlanningPromised, PlanLends, mapInputs, planLengths, MapRunnable, BothRun}
 
 -- ---- refusals
 
@@ -73,7 +65,7 @@ told-passed : (check : Check) → true ≡ allPassed check → check ≡ Passed
 told-passed Passed e = refl
 told-passed (Fault k at) e = differ (cc)
 
-module _ (bytes : List ℕ) (short : length bytes ≤ 65536) (L : PlanLists) {output : List ℕ} (lends : Lends L output) (starts′ heads′ costs′ : List ℕ) {answer : PlanAnswer}
+module _ (bytes : List ℕ) (short : length bytes ≤ 65536) (L : PlanLists) {output : List ℕ} (lends : PlanLends L output) (starts′ heads′ costs′ : List ℕ) {answer : PlanAnswer}
     (P : PlanPromised bytes (L .starts) (L .heads) (L .costs) starts′ heads′ costs′ answer) where
   abbrev between : PlanLists
   between = planLists starts′ heads′ costs′ (L .distances) (L .parents) (L .roster) (L .work)
@@ -134,10 +126,19 @@ module _ (bytes : List ℕ) (short : length bytes ≤ 65536) (L : PlanLists) {ou
         ap (take (H .arcs)) (P .costs-after ∙ ap (λ (k : Check). wordsAfter k (planCosts bytes) (L .costs)) passed)
         ∙ take-at (planCosts bytes) (drop (length (planCosts bytes)) (L .costs)) (H .arcs) (read-runnable bytes _ _ _ passed .costs-count)
 
-    fit : reading.Runnable H (planArcs bytes) (length (L .starts)) (length (L .heads)) (length (L .costs))
+    fit : Runnable H (planArcs bytes) (length (L .starts)) (length (L .heads)) (length (L .costs))
     fit = read-runnable bytes _ _ _ passed
 
-    pub read-map : length starts′ ≡ length (L .starts) → length heads′ ≡ length (L .heads) → length costs′ ≡ length (L .costs) → Runnable n m C (source .0) K between
+    -- Of every kind of heap, the run is accepted where its work has room.
+    accepted : (k : Levels) → Allowed k → workWords k (H .nodes) ≤ length (L .work)
+        → firstFault (runChecks k (mapInputs (H .nodes) (H .arcs) (H .ceiling) (H .source) between) (planLengths between)) ≡ Passed
+    accepted k allowed room =
+        rw (starts-read, heads-read, costs-read)
+        (runs-pass bytes _ _ _ passed k allowed (planLengths L)
+        (omega (arith, fit .starts-fit, lends .starts-words, lends .distances-words)) (omega (arith, fit .starts-fit, lends .starts-words, lends .parents-words))
+        (omega (arith, fit .starts-fit, lends .starts-words, lends .roster-words)) room)
+
+    pub read-map : length starts′ ≡ length (L .starts) → length heads′ ≡ length (L .heads) → length costs′ ≡ length (L .costs) → MapRunnable n m C (source .0) K between
     read-map s h c =
         rw (same-nodes, same-arcs, same-ceiling, same-source, same-segments)
         (record {
@@ -145,23 +146,14 @@ module _ (bytes : List ℕ) (short : length bytes ≤ 65536) (L : PlanLists) {ou
           heads-fit = omega (arith, fit .heads-fit, h);
           costs-fit = omega (arith, fit .costs-fit, c);
           nodes-fit = omega (arith, fit .starts-fit, lends .starts-words);
-          one-accepted =
-              rw (starts-read, heads-read, costs-read)
-              (runs-one-level bytes _ _ _ passed (length (L .distances)) (length (L .parents)) (length (L .roster)) (length (L .work))
-              (omega (arith, fit .starts-fit, lends .starts-words, lends .distances-words)) (omega (arith, fit .starts-fit, lends .starts-words, lends .parents-words))
-              (omega (arith, fit .starts-fit, lends .starts-words, lends .roster-words)) (omega (arith, fit .starts-fit, lends .starts-words, lends .work-words)));
+          one-accepted = accepted one tt (omega (arith, fit .starts-fit, lends .starts-words, lends .work-words));
           two-accepted =
-              rw (starts-read, heads-read, costs-read)
-              (runs-two-level bytes _ _ _ passed (length (L .distances)) (length (L .parents)) (length (L .roster)) (length (L .work))
-              (omega (arith, fit .starts-fit, lends .starts-words, lends .distances-words)) (omega (arith, fit .starts-fit, lends .starts-words, lends .parents-words))
-              (omega (arith, fit .starts-fit, lends .starts-words, lends .roster-words)) (omega (arith, fit .starts-fit, lends .starts-words, lends .work-words)));
+              accepted (two (H .segments)) (file-allowed bytes _ _ _ passed)
+              (omega (arith, fit .starts-fit, lends .starts-words, lends .work-words));
         })
 
     pub map-answered : (L′ : PlanLists) {output′ : List ℕ} {written : ℕ} → L′ .starts ≡ starts′ → L′ .heads ≡ heads′ → L′ .costs ≡ costs′
-        → BothRun n m C (source .0) K between L′ output output′ written
-        (oneLevelRun (mapOf n (take (n + 1) starts′) (take m heads′) (take m costs′)) C (source .0))
-        (twoLevelRun (mapOf n (take (n + 1) starts′) (take m heads′) (take m costs′)) C (source .0) K)
-        → PlanningPromised bytes L L′ output output′ written
+        → BothRun m K (mapInputs n m C (source .0) between) between L′ output output′ written → PlanningPromised bytes L L′ output output′ written
     map-answered L′ s h c B =
         let D = rw (same-nodes, same-arcs, same-ceiling, same-source, same-segments) at B in
         let E = rw (starts-read, heads-read, costs-read) at D in
@@ -173,7 +165,7 @@ module _ (bytes : List ℕ) (short : length bytes ≤ 65536) (L : PlanLists) {ou
           costs-after = c ∙ P .costs-after ∙ ap (λ (k : Check). wordsAfter k (planCosts bytes) (L .costs)) passed;
           distances-after = E .distances-after;
           parents-after = E .parents-after;
-          roster-after = rw (starts-read, heads-read, costs-read) at (E .roster-after);
+          roster-after = E .roster-after;
           work-after = E .work-after;
         })
 

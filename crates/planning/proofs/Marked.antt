@@ -1,12 +1,14 @@
--- Every marked case holds of the definitions: one theorem over the table. The rows of numbers are theory's; the files are computed.
+-- Every marked case holds of the definitions: one theorem over the table. The rows of numbers hold by theory's theorem; the files are
+-- computed.
 use mathlib.Core.Path.{_≡_, refl, _∙_, ap, ap₂, sym}
-use mathlib.Core.List.{List, [], _∷_, _++_, map}
+use mathlib.Core.List.{List, [], _∷_, _++_, map, map-append}
 use Rattle.theory.specs.Network.{linksFrom, network}
 use Rattle.theory.specs.Search.{label, remove, blank}
 use Rattle.theory.specs.Shape.{logFrom, ceilLog, oneLevelBuckets, twoLevelBuckets, oneLevel, twoLevel}
 use Rattle.theory.specs.Heap.{bucketFrom, heapLabel, heapRelax, heapRelaxAll, pick, rebound, boundsAfter, move, heapRemove, heapScan, heapFrom, boundsFrom, firstBounds, heapBlank, heapStart, heap}
-use Rattle.theory.specs.Runs.{oneLevelRun, twoLevelRun}
-use Rattle.theory.specs.Edges.{Row, Answer, answerTo, edges}
+use Rattle.theory.specs.Runs.{stepsOf}
+use Rattle.theory.specs.Edges.{Row, answerTo, edges}
+use Rattle.theory.proofs.Edges.{edges-hold}
 use Rattle.check_numbers.specs.Numbers.{faultIf}
 use Rattle.checks.specs.Checks.{firstFault, lentChecks}
 use Rattle.fields.specs.Fields.{digits, numberFrom, isField, field, fields, decimalBy, renderFields}
@@ -16,8 +18,33 @@ use Rattle.reader.specs.Checking.{arcChecks, arcsCheck, headerChecks, planCheck
 use Rattle.reader.specs.Plans.{linesArcs, tailsBelow, startsFrom, leaving, leavingFrom}
 use Rattle.report.specs.Report.{refusedText, countsLine, heapLine, orNone, nodeLine, nodeLines, acceptedText}
 use Rattle.planning.specs.Planning.{planningCheck, planText}
-use Rattle.planning.specs.Marked.{Case, Told, numbers, given, said, files, marked}
+use Rattle.planning.specs.Marked.{Told, answer, numbers, givenFor, said, files, marked}
 
-pub marked-hold : map given marked ≡ map said marked
-unfolding given said files edges answerTo oneLevelRun twoLevelRun network linksFrom label remove blank logFrom ceilLog oneLevelBuckets twoLevelBuckets oneLevel twoLevel bucketFrom heapLabel heapRelax heapRelaxAll pick rebound boundsAfter move heapRemove heapScan heapFrom boundsFrom firstBounds heapBlank heapStart heap planText planningCheck bytesOf faultIf firstFault lentChecks digits numberFrom isField field fields decimalBy renderFields arcLine headerLine arcChecks arcsCheck headerChecks planCheck linesArcs tailsBelow startsFrom leaving leavingFrom refusedText countsLine heapLine orNone nodeLine nodeLines acceptedText
-marked-hold = refl
+-- ---- the rows of numbers
+
+rows-given : (rows : List Row) → map givenFor (map numbers rows) ≡ map answer (map (λ row. answerTo (row .question)) rows)
+unfolding givenFor
+rows-given [] = refl
+rows-given (row ∷ rows) = ap (λ (l : List Told). answer (answerTo (row .question)) ∷ l) (rows-given rows)
+
+rows-said : (rows : List Row) → map said (map numbers rows) ≡ map answer (map (λ row. row .answer) rows)
+unfolding said
+rows-said [] = refl
+rows-said (row ∷ rows) = ap (λ (l : List Told). answer (row .answer) ∷ l) (rows-said rows)
+
+numbers-hold : map givenFor (map numbers edges) ≡ map said (map numbers edges)
+numbers-hold = rows-given edges ∙ ap (map answer) edges-hold ∙ sym (rows-said edges)
+
+-- ---- the files
+
+files-hold : map givenFor files ≡ map said files
+unfolding givenFor said files stepsOf network linksFrom label remove blank logFrom ceilLog oneLevelBuckets twoLevelBuckets oneLevel twoLevel bucketFrom heapLabel heapRelax heapRelaxAll pick rebound boundsAfter move heapRemove heapScan heapFrom boundsFrom firstBounds heapBlank heapStart heap planText planningCheck bytesOf faultIf firstFault lentChecks digits numberFrom isField field fields decimalBy renderFields arcLine headerLine arcChecks arcsCheck headerChecks planCheck linesArcs tailsBelow startsFrom leaving leavingFrom refusedText countsLine heapLine orNone nodeLine nodeLines acceptedText
+files-hold = refl
+
+-- ---- the table
+
+pub marked-hold : map givenFor marked ≡ map said marked
+marked-hold =
+    map-append givenFor (map numbers edges) files
+    ∙ ap₂ (λ (rows texts : List Told). rows ++ texts) numbers-hold files-hold
+    ∙ sym (map-append said (map numbers edges) files)

@@ -18,9 +18,9 @@ pub data Told : Type 0 where
   bytes : List ℕ → Told
 
 -- What the definitions give.
-unfoldable pub given : Case → Told
-given (numbers row) = answer (answerTo (row .question))
-given (printed file text) = bytes (planText (bytesOf file))
+unfoldable pub givenFor : Case → Told
+givenFor (numbers row) = answer (answerTo (row .question))
+givenFor (printed file text) = bytes (planText (bytesOf file))
 
 -- What document 01 says.
 unfoldable pub said : Case → Told

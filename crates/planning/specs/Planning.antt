@@ -9,15 +9,14 @@ use lib.ListN.{length, take, replicate}
 use Rattle.model.specs.declared.Check.{Check}
 use Rattle.model.specs.declared.Check.the-variants.{Passed, Fault}
 use Rattle.model.specs.Answers.{Numbers, wordsAfter}
-use Rattle.theory.specs.Maps.{Map, mapOf}
-use Rattle.theory.specs.Shape.{oneLevelBuckets, twoLevelBuckets}
+use Rattle.theory.specs.Maps.{Map}
 use Rattle.theory.specs.Heap.{Heap, placements}
-use Rattle.theory.specs.Runs.{oneLevelRun, twoLevelRun}
-use Rattle.checks.specs.Checks.{firstFault, oneLevelChecks, twoLevelChecks, twoLevelWork}
+use Rattle.theory.specs.Runs.{Inputs, inputs, one, two, heapBuckets, workWords, stepsOf}
+use Rattle.checks.specs.Checks.{firstFault, runChecks, Lengths, lengthsFor}
 use Rattle.runs.specs.Promise.{RosterAfter}
 use Rattle.fields.specs.Writing.{Writes}
 use Rattle.reader.specs.Checking.{planCheck}
-use Rattle.reader.specs.Plans.{Header, PlanArc, planHeader, planArcs, startsOf, headsOf, costsOf}
+use Rattle.reader.specs.Plans.{Header, PlanArc, planHeader, planArcs, startsOf, headsOf, costsOf, planRun}
 use Rattle.report.specs.Report.{refusedText, acceptedText}
 use Rattle.planning.specs.declared.RunNumbers.{RunNumbers}
 
@@ -34,33 +33,35 @@ planningCheck bytes = cond (ltb mostBytes (length bytes)) (Fault 13 0) (planChec
 
 -- The map of a planning file (document 01, "Planning file").
 abbrev pub planMap : Header → List PlanArc → Map
-planMap header arcs = mapOf (header .nodes) (startsOf (header .nodes) arcs) (headsOf (header .nodes) arcs) (costsOf (header .nodes) arcs)
+planMap header arcs = planRun header arcs .map
 
 -- The steps of the one-level run of a planning file (document 01, "One-level heap").
 abbrev pub planOneLevel : Header → List PlanArc → Heap
-planOneLevel header arcs = oneLevelRun (planMap header arcs) (header .ceiling) (header .source)
+planOneLevel header arcs = stepsOf one (planRun header arcs)
 
 -- The steps of the two-level run of a planning file (document 01, "Two-level heap").
 abbrev pub planTwoLevel : Header → List PlanArc → Heap
-planTwoLevel header arcs = twoLevelRun (planMap header arcs) (header .ceiling) (header .source) (header .segments)
+planTwoLevel header arcs = stepsOf (two (header .segments)) (planRun header arcs)
 
--- The answer's text, of the steps of both heaps. Decreases, distances and parents are equal for both, and the one-level heap's are told
--- (document 01, "Planning file").
-abbrev pub heapsText : Header → (one two : Heap) → List ℕ
-heapsText header one two =
-    acceptedText (header .nodes) (header .arcs) (length (one .search .roster)) (one .search .decreases)
-    (oneLevelBuckets (header .ceiling)) (placements one) (one .looks)
-    (twoLevelBuckets (header .ceiling) (header .segments)) (placements two) (two .looks)
-    (one .search .distances) (one .search .parents)
+-- The answer's text for m arcs and K, of the steps of both heaps over what the runs are given. Decreases, distances and parents are equal
+-- for both, and the one-level heap's are told (document 01, "Planning file").
+abbrev pub heapsText : (m K : ℕ) → Inputs → List ℕ
+heapsText m K I =
+    let first = stepsOf one I in
+    let second = stepsOf (two K) I in
+    acceptedText (I .map .nodes) m (length (first .search .roster)) (first .search .decreases)
+    (heapBuckets one (I .ceiling)) (placements first) (first .looks)
+    (heapBuckets (two K) (I .ceiling)) (placements second) (second .looks)
+    (first .search .distances) (first .search .parents)
 
 -- The text for a file whose checks come to `check` (document 01, "Planning file").
-abbrev pub checkedText : Check → Header → List PlanArc → List ℕ
-checkedText Passed header arcs = heapsText header (planOneLevel header arcs) (planTwoLevel header arcs)
-checkedText (Fault number place) header arcs = refusedText number place
+abbrev pub planAnswerText : Check → Header → List PlanArc → List ℕ
+planAnswerText Passed header arcs = heapsText (header .arcs) (header .segments) (planRun header arcs)
+planAnswerText (Fault number place) header arcs = refusedText number place
 
 -- What `plan` prints (document 01, "Planning file").
 unfoldable pub planText : (bytes : List ℕ) → List ℕ
-planText bytes = checkedText (planningCheck bytes) (planHeader bytes) (planArcs bytes)
+planText bytes = planAnswerText (planningCheck bytes) (planHeader bytes) (planArcs bytes)
 
 -- ---- the lists
 
@@ -89,14 +90,14 @@ planLists starts heads costs distances parents roster work = record {
 -- The text is written, and the lists hold the map and what the runs give back; the two-level run is made behind the one-level run, and the
 -- order of equal distances in its roster is left open (document 01, "Planning file" and "What the planner holds and leaves out").
 pub record Answered (check : Check) (header : Header) (arcs : List PlanArc) (l l′ : PlanLists) (output output′ : List ℕ) (bytes : ℕ) : Type 0 where
-  pub text : Writes 0 (checkedText check header arcs) output output′ bytes
+  pub text : Writes 0 (planAnswerText check header arcs) output output′ bytes
   pub starts-after : l′ .starts ≡ wordsAfter check (startsOf (header .nodes) arcs) (l .starts)
   pub heads-after : l′ .heads ≡ wordsAfter check (headsOf (header .nodes) arcs) (l .heads)
   pub costs-after : l′ .costs ≡ wordsAfter check (costsOf (header .nodes) arcs) (l .costs)
   pub distances-after : l′ .distances ≡ wordsAfter check (planOneLevel header arcs .search .distances) (l .distances)
   pub parents-after : l′ .parents ≡ wordsAfter check (planOneLevel header arcs .search .parents) (l .parents)
   pub roster-after : RosterAfter check (planMap header arcs) (header .source) (planTwoLevel header arcs) (l .roster) (l′ .roster)
-  pub work-after : l′ .work ≡ wordsAfter check (replicate (twoLevelWork (header .nodes)) 0) (l .work)
+  pub work-after : l′ .work ≡ wordsAfter check (replicate (workWords (two (header .segments)) (header .nodes)) 0) (l .work)
 
 -- From bytes to bytes, for every input (document 01, "Planning file" and "What a call returns").
 abbrev pub PlanningPromised : (bytes : List ℕ) → (l l′ : PlanLists) → (output output′ : List ℕ) → (written : ℕ) → Type 0
@@ -106,7 +107,7 @@ PlanningPromised bytes l l′ output output′ written =
 -- ---- what the code goes by
 
 -- The words that `plan` lends of each list, and the bytes of its output, which are enough for every answer (document 01, "Planning file").
-pub record Lends (l : PlanLists) (output : List ℕ) : Type 0 where
+pub record PlanLends (l : PlanLists) (output : List ℕ) : Type 0 where
   pub starts-words : length (l .starts) ≡ 513
   pub heads-words : length (l .heads) ≡ 2048
   pub costs-words : length (l .costs) ≡ 2048
@@ -123,34 +124,41 @@ told run = record {
   place = run .place;
   reached = run .reached;
   buckets = run .buckets;
-  decreases = run .decreases;
-  placements = run .placements;
-  looks = run .looks;
+  counts = run .counts;
 }
 
 -- The text of what two runs have returned. Runs of a map that has been read refuse nothing (document 01, "Planning file").
-unfoldable pub runsText : (nodes arcs : ℕ) → (one two : Numbers) → (distances parents : List ℕ) → List ℕ
-runsText nodes arcs one two distances parents =
-    cond (eqb (one .returned) 0)
-    (cond (eqb (two .returned) 0)
-    (acceptedText nodes arcs (one .reached) (one .decreases) (one .buckets) (one .placements) (one .looks) (two .buckets) (two .placements) (two .looks)
-    distances parents)
-    (refusedText (two .returned) (two .place)))
-    (refusedText (one .returned) (one .place))
+unfoldable pub runsText : (nodes arcs : ℕ) → (first second : Numbers) → (distances parents : List ℕ) → List ℕ
+runsText nodes arcs first second distances parents =
+    cond (eqb (first .returned) 0)
+    (cond (eqb (second .returned) 0)
+    (acceptedText nodes arcs (first .reached) (first .counts .decreases)
+    (first .buckets) (first .counts .placements) (first .counts .looks)
+    (second .buckets) (second .counts .placements) (second .counts .looks) distances parents)
+    (refusedText (second .returned) (second .place)))
+    (refusedText (first .returned) (first .place))
+
+-- What the runs of the map at the front of the lists are given: n nodes, m arcs, C and the source (document 01, "Planning file").
+abbrev pub mapInputs : (n m C source : ℕ) → PlanLists → Inputs
+mapInputs n m C source l = inputs n C source (take (n + 1) (l .starts)) (take m (l .heads)) (take m (l .costs))
+
+-- How long the lists are that the runs fill (document 01, "What a call returns").
+abbrev pub planLengths : PlanLists → Lengths
+planLengths l = lengthsFor (length (l .distances)) (length (l .parents)) (length (l .roster)) (length (l .work))
 
 -- A map that has been read into the lists, which both runs accept (document 01, "Planning file").
-pub record Runnable (n m C source K : ℕ) (l : PlanLists) : Type 0 where
+pub record MapRunnable (n m C source K : ℕ) (l : PlanLists) : Type 0 where
   pub starts-fit : n + 1 ≤ length (l .starts)
   pub heads-fit : m ≤ length (l .heads)
   pub costs-fit : m ≤ length (l .costs)
   pub nodes-fit : n ≤ 512
-  pub one-accepted : firstFault (oneLevelChecks n C source (take (n + 1) (l .starts)) (take m (l .heads)) (take m (l .costs)) (length (l .distances)) (length (l .parents)) (length (l .roster)) (length (l .work))) ≡ Passed
-  pub two-accepted : firstFault (twoLevelChecks n C source K (take (n + 1) (l .starts)) (take m (l .heads)) (take m (l .costs)) (length (l .distances)) (length (l .parents)) (length (l .roster)) (length (l .work))) ≡ Passed
+  pub one-accepted : firstFault (runChecks one (mapInputs n m C source l) (planLengths l)) ≡ Passed
+  pub two-accepted : firstFault (runChecks (two K) (mapInputs n m C source l) (planLengths l)) ≡ Passed
 
--- Both runs of the map in the lists are made and told (document 01, "Planning file").
-pub record BothRun (n m C source K : ℕ) (l l′ : PlanLists) (output output′ : List ℕ) (written : ℕ) (one two : Heap) : Type 0 where
-  pub text : Writes 0 (heapsText (record { nodes = n; arcs = m; ceiling = C; source = source; segments = K; length = 0 }) one two) output output′ written
-  pub distances-after : l′ .distances ≡ wordsAfter Passed (one .search .distances) (l .distances)
-  pub parents-after : l′ .parents ≡ wordsAfter Passed (one .search .parents) (l .parents)
-  pub roster-after : RosterAfter Passed (mapOf n (take (n + 1) (l .starts)) (take m (l .heads)) (take m (l .costs))) source two (l .roster) (l′ .roster)
-  pub work-after : l′ .work ≡ wordsAfter Passed (replicate (twoLevelWork n) 0) (l .work)
+-- Both runs of m arcs with K, over what they are given, are made and told (document 01, "Planning file").
+pub record BothRun (m K : ℕ) (I : Inputs) (l l′ : PlanLists) (output output′ : List ℕ) (written : ℕ) : Type 0 where
+  pub text : Writes 0 (heapsText m K I) output output′ written
+  pub distances-after : l′ .distances ≡ wordsAfter Passed (stepsOf one I .search .distances) (l .distances)
+  pub parents-after : l′ .parents ≡ wordsAfter Passed (stepsOf one I .search .parents) (l .parents)
+  pub roster-after : RosterAfter Passed (I .map) (I .source) (stepsOf (two K) I) (l .roster) (l′ .roster)
+  pub work-after : l′ .work ≡ wordsAfter Passed (replicate (workWords (two K) (I .map .nodes)) 0) (l .work)

@@ -1,16 +1,15 @@
 // From the bytes of a planning file to the bytes that `plan` prints (document 01, "Planning file").
+use model::Counts;
 use model::Node;
 use model::RunAnswer;
 use reader::PlanAnswer;
 use report::HeapNumbers;
 ghost use mathlib.Core.Path.{_≡_};
 ghost use Prim.Native.Nat.{_+_, _*_, _≤_};
-ghost use lib.ListN.{length, take};
+ghost use lib.ListN.{length};
 ghost use Rattle.model.specs.Answers.{numbersOf};
-ghost use Rattle.theory.specs.Maps.{mapOf};
-ghost use Rattle.theory.specs.Runs.{oneLevelRun, twoLevelRun};
 ghost use Rattle.fields.specs.Writing.{Writes};
-ghost use Rattle.planning.specs.Planning.{planLists, PlanningPromised, Lends, told, runsText, Runnable, BothRun};
+ghost use Rattle.planning.specs.Planning.{planLists, PlanningPromised, PlanLends, told, runsText, mapInputs, MapRunnable, BothRun};
 
 // What a run has returned: number and place, then its numbers.
 pub struct RunNumbers {
@@ -18,9 +17,7 @@ pub struct RunNumbers {
     pub place: usize,
     pub reached: u32,
     pub buckets: u32,
-    pub decreases: u32,
-    pub placements: u32,
-    pub looks: u32,
+    pub counts: Counts,
 }
 
 fn numbers_of(answer: RunAnswer) -> RunNumbers
@@ -30,26 +27,24 @@ fn numbers_of(answer: RunAnswer) -> RunNumbers
         RunAnswer::Accepted {
             reached,
             buckets,
-            decreases,
-            placements,
-            looks,
+            counts,
         } => RunNumbers {
             returned: 0,
             place: 0,
             reached,
             buckets,
-            decreases,
-            placements,
-            looks,
+            counts,
         },
         RunAnswer::Refused { number, place } => RunNumbers {
             returned: number,
             place,
             reached: 0,
             buckets: 0,
-            decreases: 0,
-            placements: 0,
-            looks: 0,
+            counts: Counts {
+                decreases: 0,
+                placements: 0,
+                looks: 0,
+            },
         },
     }
 }
@@ -77,20 +72,20 @@ fn write_runs(
     }
     let first = HeapNumbers {
         buckets: one.buckets,
-        placements: one.placements,
-        looks: one.looks,
+        placements: one.counts.placements,
+        looks: one.counts.looks,
     };
     let second = HeapNumbers {
         buckets: two.buckets,
-        placements: two.placements,
-        looks: two.looks,
+        placements: two.counts.placements,
+        looks: two.counts.looks,
     };
     report::write_answer(
         output,
         nodes,
         arcs,
         one.reached,
-        one.decreases,
+        one.counts.decreases,
         first,
         second,
         distances,
@@ -114,15 +109,14 @@ fn plan_map(
     work: &mut [u32],
     output: &mut [u8],
 ) -> usize
-    requires { ⌜ Runnable nodes arcs ceiling (source .0) segments
+    requires { ⌜ MapRunnable nodes arcs ceiling (source .0) segments
         (planLists (now starts) (now heads) (now costs) (now distances) (now parents) (now roster) (now work)) ⌝ }
     requires { ⌜ length (now output) ≡ 33280 ⌝ }
-    ensures { λ r. ⌜ BothRun nodes arcs ceiling (source .0) segments
+    ensures { λ r. ⌜ BothRun arcs segments
+        (mapInputs nodes arcs ceiling (source .0) (planLists (now (starts .entry)) (now (heads .entry)) (now (costs .entry)) (now (distances .entry)) (now (parents .entry)) (now (roster .entry)) (now (work .entry))))
         (planLists (now (starts .entry)) (now (heads .entry)) (now (costs .entry)) (now (distances .entry)) (now (parents .entry)) (now (roster .entry)) (now (work .entry)))
         (planLists (now (starts .entry)) (now (heads .entry)) (now (costs .entry)) (now (distances .exit)) (now (parents .exit)) (now (roster .exit)) (now (work .exit)))
-        (now (output .entry)) (now (output .exit)) r
-        (oneLevelRun (mapOf nodes (take (nodes + 1) (now (starts .entry))) (take arcs (now (heads .entry))) (take arcs (now (costs .entry)))) ceiling (source .0))
-        (twoLevelRun (mapOf nodes (take (nodes + 1) (now (starts .entry))) (take arcs (now (heads .entry))) (take arcs (now (costs .entry)))) ceiling (source .0) segments) ⌝ }
+        (now (output .entry)) (now (output .exit)) r ⌝ }
 {
     let n = nodes as usize;
     let m = arcs as usize;
@@ -177,7 +171,7 @@ fn answer_in(
     work: &mut [u32],
     output: &mut [u8],
 ) -> usize
-    requires { ⌜ Lends (planLists (now starts) (now heads) (now costs) (now distances) (now parents) (now roster) (now work)) (now output) ⌝ }
+    requires { ⌜ PlanLends (planLists (now starts) (now heads) (now costs) (now distances) (now parents) (now roster) (now work)) (now output) ⌝ }
     ensures { λ r. ⌜ PlanningPromised (now (bytes .entry))
         (planLists (now (starts .entry)) (now (heads .entry)) (now (costs .entry)) (now (distances .entry)) (now (parents .entry)) (now (roster .entry)) (now (work .entry)))
         (planLists (now (starts .exit)) (now (heads .exit)) (now (costs .exit)) (now (distances .exit)) (now (parents .exit)) (now (roster .exit)) (now (work .exit)))

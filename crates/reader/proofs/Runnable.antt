@@ -7,22 +7,22 @@ use native.Mathlib.Omega.{arith}
 use lib.ListN.{length, drop, length-map}
 use Rattle.model.specs.declared.Check.the-variants.{Passed}
 use Rattle.theory.specs.Maps.{mapOf, Valid}
-use Rattle.checks.specs.Checks.{firstFault, lentChecks, oneLevelChecks, oneLevelWork, twoLevelChecks, twoLevelWork}
+use Rattle.theory.specs.Runs.{ValidInputs, Levels, two, Allowed, workWords}
+use Rattle.checks.specs.Checks.{firstFault, lentChecks, runChecks, Lengths}
 use Rattle.checks.proofs.Order.{AllPass, none, more, passed-all}
 use Rattle.checks.proofs.Sizes.{passed-range, passed-heads, passed-ceiling, passed-source, passed-lent}
-use Rattle.checks.proofs.Valid.{one-level-passes, two-level-passes}
+use Rattle.checks.proofs.Valid.{ready-passed}
 use Rattle.cursor.specs.declared.HeaderLine.{HeaderLine}
 use Rattle.cursor.specs.declared.HeaderLine.the-variants.{NoHeader, HeaderRead}
 use Rattle.cursor.specs.Lines.{headerLine}
 use Rattle.reader.specs.Checking.{arcsCheck, headerChecks, headerLineCheck, planCheck}
-use Rattle.reader.specs.Plans.{PlanArc, Header, headerNumbers, planHeader, linesArcs, planArcs, numbered, startsOf, headsOf, costsOf, planStarts, planHeads, planCosts}
+use Rattle.reader.specs.Plans.{PlanArc, Header, headerNumbers, planHeader, linesArcs, planArcs, numbered, startsOf, headsOf, costsOf, planRun, planInputs}
 use Rattle.reader.proofs.Arcs.{in-order, starts-length, start-at, below-none, below-rises, below-all}
 use Rattle.reader.proofs.Shown.{ArcsShown, arcs-shown}
 
 -- a header, its arcs and the words of the lists lent for them, with which both runs can be made
 pub record Runnable (header : Header) (arcs : List PlanArc) (starts heads costs : ℕ) : Type 0 where
-  pub valid : Valid (mapOf (header .nodes) (startsOf (header .nodes) arcs) (headsOf (header .nodes) arcs) (costsOf (header .nodes) arcs))
-      (header .ceiling) (header .source)
+  pub valid : ValidInputs (planRun header arcs)
   pub heads-count : length (headsOf (header .nodes) arcs) ≡ header .arcs
   pub costs-count : length (costsOf (header .nodes) arcs) ≡ header .arcs
   pub segments-low : 2 ≤ header .segments
@@ -72,14 +72,14 @@ module _ (bytes : List ℕ) (starts heads costs : ℕ) where
       → AllPass (headerChecks n m C source K starts heads costs ++ (arcsCheck n C m 0 0 (drop taken bytes) ∷ []))
       → Runnable (headerNumbers (HeaderRead n m C source K taken)) (linesArcs m (drop taken bytes)) starts heads costs
   unfolding headerChecks lentChecks
-  header-runnable n m C source K taken (more one (more four (more two (more three (more nine (more first (more second (more third (more arcs none))))))))) =
-      let nodes = passed-range 1 n 1 4096 one in
-      let segments = passed-range 9 K 2 64 nine in
+  header-runnable n m C source K taken (more by-1 (more by-4 (more by-2 (more by-3 (more by-9 (more first (more second (more third (more arcs none))))))))) =
+      let nodes = passed-range 1 n 1 4096 by-1 in
+      let segments = passed-range 9 K 2 64 by-9 in
       let read = linesArcs m (drop taken bytes) in
       let shown = arcs-shown n C m 0 0 (drop taken bytes) arcs in
       record {
         valid =
-            map-valid n C m source read shown (nodes .0) (nodes .1) (passed-heads m four) (passed-ceiling C two) (passed-source n source three);
+            map-valid n C m source read shown (nodes .0) (nodes .1) (passed-heads m by-4) (passed-ceiling C by-2) (passed-source n source by-3);
         heads-count = heads-length n C m source read shown;
         costs-count = costs-length n C m source read shown;
         segments-low = segments .0;
@@ -100,22 +100,14 @@ module _ (bytes : List ℕ) (starts heads costs : ℕ) where
 
 -- ---- the checks of the runs
 
-module _ (bytes : List ℕ) (starts heads costs : ℕ) (passed : planCheck bytes starts heads costs ≡ Passed)
-    (distances parents roster work : ℕ) (distances-fit : planHeader bytes .nodes ≤ distances)
-    (parents-fit : planHeader bytes .nodes ≤ parents) (roster-fit : planHeader bytes .nodes ≤ roster) where
-  -- no one-level run on the file's map is refused, where the lists lent to it are long enough
-  pub runs-one-level : oneLevelWork (planHeader bytes .nodes) ≤ work
-      → firstFault (oneLevelChecks (planHeader bytes .nodes) (planHeader bytes .ceiling) (planHeader bytes .source)
-      (planStarts bytes) (planHeads bytes) (planCosts bytes) distances parents roster work) ≡ Passed
-  runs-one-level work-fit =
-      one-level-passes _ _ _ _ _ _ distances parents roster work (read-runnable bytes starts heads costs passed .valid)
-      (record { distances-fit = distances-fit; parents-fit = parents-fit; roster-fit = roster-fit; work-fit = work-fit })
+-- no run on the file's map is refused, where the lists lent to it are long enough; of two levels with the file's K
+module _ (bytes : List ℕ) (starts heads costs : ℕ) (passed : planCheck bytes starts heads costs ≡ Passed) where
+  pub runs-pass : (L : Levels) → Allowed L → (room : Lengths) → planHeader bytes .nodes ≤ room .distances → planHeader bytes .nodes ≤ room .parents
+      → planHeader bytes .nodes ≤ room .roster → workWords L (planHeader bytes .nodes) ≤ room .work
+      → firstFault (runChecks L (planInputs bytes) room) ≡ Passed
+  runs-pass L allowed room d p r w =
+      ready-passed
+      (record { valid = read-runnable bytes starts heads costs passed .valid; allowed = allowed; distances-fit = d; parents-fit = p; roster-fit = r; work-fit = w })
 
-  -- and no two-level run with the file's K
-  pub runs-two-level : twoLevelWork (planHeader bytes .nodes) ≤ work
-      → firstFault (twoLevelChecks (planHeader bytes .nodes) (planHeader bytes .ceiling) (planHeader bytes .source) (planHeader bytes .segments)
-      (planStarts bytes) (planHeads bytes) (planCosts bytes) distances parents roster work) ≡ Passed
-  runs-two-level work-fit =
-      let run = read-runnable bytes starts heads costs passed in
-      two-level-passes _ _ _ _ _ _ distances parents roster work (planHeader bytes .segments) (run .valid) (run .segments-low) (run .segments-high)
-      (record { distances-fit = distances-fit; parents-fit = parents-fit; roster-fit = roster-fit; work-fit = work-fit })
+  pub file-allowed : Allowed (two (planHeader bytes .segments))
+  file-allowed = let run = read-runnable bytes starts heads costs passed in (run .segments-low, run .segments-high)

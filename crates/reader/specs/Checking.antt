@@ -7,7 +7,7 @@ use lib.ListN.{length, drop}
 use Rattle.model.specs.declared.Check.{Check}
 use Rattle.model.specs.declared.Check.the-variants.{Fault}
 use Rattle.check_numbers.specs.Numbers.{faultIf, nodesCheck, headCountCheck, ceilingCheck, sourceCheck, segmentsCheck}
-use Rattle.checks.specs.Checks.{firstFault, Lent, lentChecks}
+use Rattle.checks.specs.Checks.{firstFault, LentList, lentChecks}
 use Rattle.cursor.specs.declared.ArcLine.{ArcLine}
 use Rattle.cursor.specs.declared.ArcLine.the-variants.{NoArc, ArcRead}
 use Rattle.cursor.specs.declared.HeaderLine.{HeaderLine}
@@ -39,9 +39,9 @@ unfoldable pub arcChecks : (n C i before tail head cost : ℕ) → List Check
 arcChecks n C i before tail head cost = tailCheck n i before tail ∷ headCheck n i head ∷ costCheck C i cost ∷ []
 
 -- The line of arc i, checked by 11 and then as `read` says (document 01, "What a call returns").
-abbrev pub arcLineCheck : ArcLine → (i : ℕ) → (read : (tail head cost length : ℕ) → Check) → Check
+abbrev pub arcLineCheck : ArcLine → (i : ℕ) → (read : (tail head cost taken : ℕ) → Check) → Check
 arcLineCheck NoArc i read = lineFault (lineOf i)
-arcLineCheck (ArcRead tail head cost length) i read = read tail head cost length
+arcLineCheck (ArcRead tail head cost taken) i read = read tail head cost taken
 
 -- The lines of arc i and of those behind it, `left` in all, each by 11, 12, 7, 8, then left-over bytes. No tail is below that before
 -- arc 0, which counts as 0 (document 01, "What a call returns").
@@ -49,12 +49,12 @@ unfoldable pub arcsCheck : (n C left i before : ℕ) → List ℕ → Check
 arcsCheck n C zero i before bytes = faultIf 11 (lineOf i) (ltb 0 (length bytes))
 arcsCheck n C (suc left) i before bytes =
     arcLineCheck (arcLine bytes) i
-    (λ tail head cost length.
-    firstFault (arcChecks n C i before tail head cost ++ (arcsCheck n C left (suc i) tail (drop length bytes) ∷ [])))
+    (λ tail head cost taken.
+    firstFault (arcChecks n C i before tail head cost ++ (arcsCheck n C left (suc i) tail (drop taken bytes) ∷ [])))
 
 -- The lists lent to the reader: 0 starts, 1 heads, 2 costs (document 01, "What a call returns").
-abbrev pub planLists : (n m starts heads costs : ℕ) → List Lent
-planLists n m starts heads costs =
+abbrev pub readerLists : (n m starts heads costs : ℕ) → List LentList
+readerLists n m starts heads costs =
     record { words = starts; needed = n + 1 } ∷ record { words = heads; needed = m } ∷ record { words = costs; needed = m } ∷ []
 
 -- Line 1 by 1, 4, 2, 3, 9, 10 (document 01, "What a call returns").
@@ -65,14 +65,14 @@ headerChecks n m C source K starts heads costs =
     ∷ ceilingCheck C
     ∷ sourceCheck n source
     ∷ segmentsCheck K
-    ∷ lentChecks 0 (planLists n m starts heads costs)
+    ∷ lentChecks 0 (readerLists n m starts heads costs)
 
 -- A planning file, and the words of the lists lent for it: line 1 by 11 and its other checks, then the arcs (document 01, "What a
 -- call returns").
 abbrev pub headerLineCheck : HeaderLine → (bytes : List ℕ) → (starts heads costs : ℕ) → Check
 headerLineCheck NoHeader bytes starts heads costs = lineFault 1
-headerLineCheck (HeaderRead n m C source K length) bytes starts heads costs =
-    firstFault (headerChecks n m C source K starts heads costs ++ (arcsCheck n C m 0 0 (drop length bytes) ∷ []))
+headerLineCheck (HeaderRead n m C source K taken) bytes starts heads costs =
+    firstFault (headerChecks n m C source K starts heads costs ++ (arcsCheck n C m 0 0 (drop taken bytes) ∷ []))
 
 -- The checks of a planning file (document 01, "What a call returns").
 unfoldable pub planCheck : List ℕ → (starts heads costs : ℕ) → Check

@@ -8,6 +8,7 @@ use Rattle.cursor.specs.declared.ArcLine.{ArcLine}
 use Rattle.cursor.specs.declared.ArcLine.the-variants.{NoArc, ArcRead}
 use Rattle.cursor.specs.declared.HeaderLine.{HeaderLine}
 use Rattle.cursor.specs.declared.HeaderLine.the-variants.{NoHeader, HeaderRead}
+use Rattle.theory.specs.Runs.{Inputs, inputs}
 use Rattle.cursor.specs.Lines.{arcLine, headerLine}
 
 -- ---- the numbers of the file
@@ -24,13 +25,13 @@ pub record Header : Type 0 where
 -- The numbers of line 1; a file without one is refused, and its numbers count as 0 (document 01, "What a call returns").
 abbrev pub headerNumbers : HeaderLine → Header
 headerNumbers NoHeader = record { nodes = 0; arcs = 0; ceiling = 0; source = 0; segments = 0; length = 0 }
-headerNumbers (HeaderRead n m C source K length) = record {
+headerNumbers (HeaderRead n m C source K taken) = record {
   nodes = n;
   arcs = m;
   ceiling = C;
   source = source;
   segments = K;
-  length = length;
+  length = taken;
 }
 
 -- Line 1 of a planning file (document 01, "Planning file").
@@ -46,12 +47,12 @@ pub record PlanArc : Type 0 where
 -- An arc's line, and the arcs behind the bytes that it takes.
 abbrev pub arcAndBehind : ArcLine → (behind : ℕ → List PlanArc) → List PlanArc
 arcAndBehind NoArc behind = []
-arcAndBehind (ArcRead tail head cost length) behind = record { tail = tail; head = head; cost = cost } ∷ behind length
+arcAndBehind (ArcRead tail head cost taken) behind = record { tail = tail; head = head; cost = cost } ∷ behind taken
 
 -- The arcs of so many lines (document 01, "Planning file").
 unfoldable pub linesArcs : (left : ℕ) → List ℕ → List PlanArc
 linesArcs zero bytes = []
-linesArcs (suc left) bytes = arcAndBehind (arcLine bytes) (λ length. linesArcs left (drop length bytes))
+linesArcs (suc left) bytes = arcAndBehind (arcLine bytes) (λ taken. linesArcs left (drop taken bytes))
 
 -- The m arcs of a planning file, in the order of its lines (document 01, "Planning file").
 abbrev pub planArcs : List ℕ → List PlanArc
@@ -109,3 +110,12 @@ planHeads bytes = headsOf (planHeader bytes .nodes) (planArcs bytes)
 -- The costs of a planning file (document 01, "Planning file").
 abbrev pub planCosts : List ℕ → List ℕ
 planCosts bytes = costsOf (planHeader bytes .nodes) (planArcs bytes)
+
+-- What a run on a header and its arcs is given (document 01, "Planning file").
+abbrev pub planRun : Header → List PlanArc → Inputs
+planRun header arcs =
+    inputs (header .nodes) (header .ceiling) (header .source) (startsOf (header .nodes) arcs) (headsOf (header .nodes) arcs) (costsOf (header .nodes) arcs)
+
+-- What a run on a planning file is given (document 01, "Planning file").
+abbrev pub planInputs : List ℕ → Inputs
+planInputs bytes = planRun (planHeader bytes) (planArcs bytes)

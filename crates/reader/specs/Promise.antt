@@ -35,13 +35,13 @@ readNumbers nodes arcs ceiling source segments = record {
 }
 
 -- All other numbers of a refusal are 0 (document 01, "What a call returns").
-abbrev pub refusedNumbers : (number place : ℕ) → PlanNumbers
-refusedNumbers number place = record { returned = number; place = place; nodes = 0; arcs = 0; ceiling = 0; source = 0; segments = 0 }
+abbrev pub unreadNumbers : (number place : ℕ) → PlanNumbers
+unreadNumbers number place = record { returned = number; place = place; nodes = 0; arcs = 0; ceiling = 0; source = 0; segments = 0 }
 
 -- The numbers of each case of the reader's answer (document 01, "What a call returns").
 abbrev pub planNumbersOf : PlanAnswer → PlanNumbers
 planNumbersOf (Read nodes arcs ceiling source segments) = readNumbers nodes arcs ceiling (source .0) segments
-planNumbersOf (Refused number place) = refusedNumbers number place
+planNumbersOf (Refused number place) = unreadNumbers number place
 
 -- The case of the reader's answer: the file was read (document 01, "What a call returns").
 abbrev pub wasRead : PlanAnswer → Bool
@@ -56,11 +56,11 @@ allPassed (Fault number place) = false
 -- The numbers given back: those of line 1, or the first fault's (document 01, "Planning file" and "What a call returns").
 abbrev pub planNumbers : Check → Header → PlanNumbers
 planNumbers Passed header = readNumbers (header .nodes) (header .arcs) (header .ceiling) (header .source) (header .segments)
-planNumbers (Fault number place) header = refusedNumbers number place
+planNumbers (Fault number place) header = unreadNumbers number place
 
 -- The reader on a file whose checks in order come to `check`: its answer, and what each lent list holds afterwards (document 01,
 -- "Planning file" and "What a call returns").
-pub record Promised (check : Check) (bytes starts heads costs starts′ heads′ costs′ : List ℕ) (answer : PlanAnswer) : Type 0 where
+pub record PlanAnswered (check : Check) (bytes starts heads costs starts′ heads′ costs′ : List ℕ) (answer : PlanAnswer) : Type 0 where
   pub read : wasRead answer ≡ allPassed check
   pub numbers : planNumbersOf answer ≡ planNumbers check (planHeader bytes)
   pub starts-after : starts′ ≡ wordsAfter check (planStarts bytes) starts
@@ -70,4 +70,4 @@ pub record Promised (check : Check) (bytes starts heads costs starts′ heads′
 -- The reader on every file (document 01, "Planning file" and "What a call returns").
 abbrev pub PlanPromised : (bytes starts heads costs starts′ heads′ costs′ : List ℕ) → PlanAnswer → Type 0
 PlanPromised bytes starts heads costs starts′ heads′ costs′ answer =
-    Promised (planCheck bytes (length starts) (length heads) (length costs)) bytes starts heads costs starts′ heads′ costs′ answer
+    PlanAnswered (planCheck bytes (length starts) (length heads) (length costs)) bytes starts heads costs starts′ heads′ costs′ answer

@@ -12,7 +12,7 @@ ghost use lib.Dec.{ltb};
 ghost use lib.ListN.{length, drop};
 ghost use Rattle.check_numbers.specs.Numbers.{faultIf};
 ghost use Rattle.checks.specs.Checks.{firstFault, lentChecks};
-ghost use Rattle.reader.specs.Checking.{arcChecks, arcsCheck, planLists, headerChecks};
+ghost use Rattle.reader.specs.Checking.{arcChecks, arcsCheck, readerLists, headerChecks};
 
 // What line 1 tells and the lists lent for it, then the arcs behind it.
 pub fn plan_check(
@@ -64,7 +64,7 @@ fn header_check(
 }
 
 fn lists_check(n: u32, arcs: u32, starts: usize, heads: usize, costs: usize) -> Check
-    ensures { λ r. ⌜ r ≡ firstFault (lentChecks 0 (planLists n arcs starts heads costs)) ⌝ }
+    ensures { λ r. ⌜ r ≡ firstFault (lentChecks 0 (readerLists n arcs starts heads costs)) ⌝ }
 {
     let words = arcs as usize;
     let found = first_of(

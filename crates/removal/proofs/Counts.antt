@@ -12,10 +12,12 @@ use Rattle.theory.specs.Search.{mark}
 use Rattle.theory.specs.Heap.{Heap}
 use Rattle.theory.proofs.Cases.{split}
 use Rattle.theory.proofs.Sums.{sum-mono, sum-ones}
-use Rattle.theory.proofs.Search.Invariant.{known, known-low, scans-fewer}
+use Rattle.theory.proofs.Search.Invariant.{known-low, scans-fewer}
+use Rattle.theory.specs.Invariants.{known}
 use Rattle.state.specs.declared.Layout.{Layout}
 use Rattle.state.specs.declared.State.{State}
 use Rattle.state.specs.Stands.{Setting, Lists, Stands}
+use Rattle.state.proofs.Tallies.{same-shifts, same-looks}
 use Rattle.bounds.specs.Words.{segmentLooks}
 use Rattle.finding.specs.Finding.{looksOf}
 use Rattle.removal.specs.Removing.{Rests}
@@ -49,11 +51,11 @@ module _ {layout : Layout} {sizes : List ℕ} {X : Setting layout sizes} {before
   pub shifts-few : s .tally .shifts ≤ 90112
   shifts-few =
       let b : h .search .insertions * X .shape .buckets ≤ h .search .insertions * 22 = mul-le-mul-left (h .search .insertions) (omega (arith, X .agrees .buckets, X .agrees .sized .few)) in
-      omega (arith, R .stands .shifts, R .resting .counted .shifts, insertions-few)
+      omega (arith, same-shifts (R .stands .tally), R .resting .counted .shifts, insertions-few)
 
   pub looks-few : s .tally .looks ≤ 352256
   looks-few =
       let r : length (h .search .roster) ≤ 4096 = omega (arith, R .stands .reached, reached-low, nodes-few) in
       let b : length (h .search .roster) * (X .shape .buckets + X .segment-looks) ≤ length (h .search .roster) * 86 =
       mul-le-mul-left (length (h .search .roster)) (omega (arith, X .agrees .buckets, X .agrees .sized .few, X .few-looks)) in
-      omega (arith, R .stands .looks, R .resting .counted .looks)
+      omega (arith, same-looks (R .stands .tally), R .resting .counted .looks)

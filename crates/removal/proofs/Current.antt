@@ -12,10 +12,9 @@ use borrow.Author.Tests.{lt-ltb, le-ltb}
 use Rattle.theory.specs.Shape.{Shape}
 use Rattle.theory.specs.Heap.{Heap, bound, heapRemove}
 use Rattle.theory.proofs.Cases.{split}
-use Rattle.theory.proofs.Search.Nearest.{Labelled}
-use Rattle.theory.proofs.Heap.Laws.{Lawful}
-use Rattle.theory.proofs.Heap.Buckets.{Fits, late-range}
-use Rattle.theory.proofs.Heap.Shift.{seg}
+use Rattle.theory.specs.Lawful.{Lawful}
+use Rattle.theory.specs.Invariants.{Labelled, Fits, seg}
+use Rattle.theory.proofs.Heap.Buckets.{late-range}
 use Rattle.bounds.specs.Words.{boundsOf, sizeOf, segmented, segmentNumber, segmentLooks, Agrees}
 use Rattle.bounds.proofs.Segments.{number-inside, number-whole, end-inside, end-whole}
 use Rattle.bounds.proofs.Agreement.{segment-some}
@@ -24,6 +23,8 @@ use Rattle.frontier.specs.Frontier.{Current, FirstCurrent}
 use Rattle.state.specs.declared.Layout.{Layout}
 use Rattle.state.specs.declared.State.{State}
 use Rattle.state.specs.Stands.{Setting, Lists, Stands}
+use Rattle.state.specs.Tallies.{looks, afterEvent}
+use Rattle.state.proofs.Tallies.{same-tally}
 use Rattle.state.proofs.Label.{bound-word}
 use Rattle.state.proofs.Find.{sum-some, counted-word, word-current, current-least, current-fits}
 use Rattle.state.proofs.Remove.{Removing, current-stands}
@@ -105,11 +106,10 @@ module _ {layout : Layout} {sizes : List ℕ} {X : Setting layout sizes} {before
   segment-is = omega (arith, number-is)
 
   pub current-removal : {w′ : List ℕ} {v : ℕ} → FirstCurrent n (layout .slots) (layout .segments) (l .words) w′ v → {s′ : State}
-      → s′ .front ≡ s .front → s′ .current + 1 ≡ s .current → s′ .reached ≡ s .reached + 1 → s′ .tally .insertions ≡ s .tally .insertions → s′ .tally .decreases ≡ s .tally .decreases
-      → s′ .tally .shifts ≡ s .tally .shifts
-      → s′ .tally .looks ≡ s .tally .looks + (1 + segmentLooks (layout .segments) number)
+      → s′ .front ≡ s .front → s′ .current + 1 ≡ s .current → s′ .reached ≡ s .reached + 1
+      → {looked : ℕ} → s′ .tally ≡ afterEvent (looks looked) (s .tally) → looked ≡ 1 + segmentLooks (layout .segments) number
       → Removal X before h (lists w′ (l .distances) (l .parents) (set (l .roster) (s .reached) v)) s′ v
-  current-removal {w′} {v} F {s′} f c q i d t k =
+  current-removal {w′} {v} F {s′} f c q t k =
       let T = R .stands in
       let min = current-least X T (R .resting .rest) (R .resting .inv) F in
       record {
@@ -118,5 +118,9 @@ module _ {layout : Layout} {sizes : List ℕ} {X : Setting layout sizes} {before
         least = rw f min;
         stands = subst (λ (d : ℕ). Stands layout (X .shape) before (heapRemove (X .shape) 1 (seg (X .shape) (h .bounds) 1 d) d v h) (lists w′ (l .distances) (l .parents) (set (l .roster) (s .reached) v)) s′) (sym f)
             (current-stands X T (R .resting .rest) (R .resting .inv) (R .long) F
-            (record { front = f; reached = q; insertions = i; decreases = d; shifts = t ∙ omega arith; looks = k ∙ (rw (getD-drop (4 * n) (l .words) 1 0)) }) c);
+            (record {
+              front = f;
+              reached = q;
+              tally = t ∙ same-tally refl refl (omega arith) (rw (k, getD-drop (4 * n) (l .words) 1 0));
+            }) c);
       }

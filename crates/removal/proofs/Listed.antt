@@ -11,10 +11,9 @@ use lib.Seq.{getD-drop}
 use Rattle.theory.specs.Sums.{sumBelow}
 use Rattle.theory.specs.Heap.{Heap, bound, keyOf, boundsAfter, heapRemove}
 use Rattle.theory.proofs.Sums.{sum-at, sum-zero}
-use Rattle.theory.proofs.Search.Nearest.{Labelled, Least}
+use Rattle.theory.specs.Invariants.{Labelled, Least, Fits, seg}
 use Rattle.theory.proofs.Cases.{same?}
-use Rattle.theory.proofs.Heap.Buckets.{Fits, late-range}
-use Rattle.theory.proofs.Heap.Shift.{seg}
+use Rattle.theory.proofs.Heap.Buckets.{late-range}
 use Rattle.bounds.specs.Words.{boundsOf, segmentNumber, segmentEnd, segmentLooks, reboundWords}
 use Rattle.bounds.proofs.Words.{rebound-words-length, rebound-words-before, rebound-words-after}
 use Rattle.bounds.proofs.Agreement.{after-words-agree, end-reached}
@@ -28,6 +27,8 @@ use Rattle.state.specs.Places.{isWord}
 use Rattle.state.specs.Slots.{slotOf, slotWord, keyWord, SlotFits, Enters}
 use Rattle.state.specs.Stands.{Setting, Lists, Stands}
 use Rattle.state.proofs.Slots.{word-far, slot-bucket, slot-below}
+use Rattle.state.specs.Tallies.{looks, afterEvent}
+use Rattle.state.proofs.Tallies.{same-tally, same-insertions, same-decreases, same-shifts, same-looks}
 use Rattle.state.proofs.Find.{isWord-same, isWord-other, node, listed-word, later, key-word}
 use Rattle.state.proofs.Remove.{Removing, listed-min, listed-fit, listed-seg, moved-enters, moved-apart, listed-shifts, listed-stands}
 use Rattle.placing.specs.Placing.{Formed, lists}
@@ -42,10 +43,7 @@ pub record Taken (x looked : ℕ) (s s₁ : State) : Type 0 where
   pub front : s₁ .front ≡ x
   pub current : s₁ .current ≡ 0
   pub reached : s₁ .reached ≡ s .reached + 1
-  pub insertions : s₁ .tally .insertions ≡ s .tally .insertions
-  pub decreases : s₁ .tally .decreases ≡ s .tally .decreases
-  pub shifts : s₁ .tally .shifts ≡ s .tally .shifts
-  pub looks : s₁ .tally .looks ≡ s .tally .looks + looked
+  pub tally : s₁ .tally ≡ afterEvent (looks looked) (s .tally)
 
 module _ {layout : Layout} {sizes : List ℕ} {X : Setting layout sizes} {before : List ℕ} {h : Heap} {l : Lists} {s : State} (R : Rests X before h l s) (empty : s .current ≡ 0) where
   abbrev n : ℕ
@@ -89,7 +87,7 @@ module _ {layout : Layout} {sizes : List ℕ} {X : Setting layout sizes} {before
   bucket-some b = record { frontier = R .stands .frontier; slots = X .slots; low = b .low; high = b .high; few = X .agrees .sized .few; some = b .some }
 
   -- The slot that is used, and its least node.
-  module _ {j k v : ℕ} (b : LowestBucket layout (l .words) j) (g : LowestSegment layout (l .words) j k) (found : Answer.Least n K (slotOf K j k) (l .words) (l .distances) v) where
+  module _ {j k v : ℕ} (b : LowestBucket layout (l .words) j) (g : LowestSegment layout (l .words) j k) (found : Answer.LeastIn n K (slotOf K j k) (l .words) (l .distances) v) where
     abbrev key : ℕ
     key = keyOf h v
 
@@ -210,7 +208,7 @@ module _ {layout : Layout} {sizes : List ℕ} {X : Setting layout sizes} {before
               rw (front-is, key-of w lo)
               (moved-apart X (R .stands) (R .resting .rest) (R .resting .inv) (R .long) none-current (g .slot) (b .lower) (g .earlier) found u bounds-are w lo (q .0) (q .1));
           current = taken .current ∙ sym (sum-zero n (λ w. isWord 1 (getD (places n w₂) w 0)) none-left);
-          shifts-few = omega (arith, taken .shifts, shifts-few R, nodes-few R);
+          shifts-few = omega (arith, same-shifts (taken .tally), shifts-few R, nodes-few R);
         }
 
         -- They have moved.
@@ -238,10 +236,8 @@ module _ {layout : Layout} {sizes : List ℕ} {X : Setting layout sizes} {before
           removing = record {
             front = D .front ∙ front-is;
             reached = D .reached ∙ taken .reached;
-            insertions = D .insertions ∙ taken .insertions;
-            decreases = D .decreases ∙ taken .decreases;
-            shifts = omega (arith, D .shifts, taken .shifts, shifted);
-            looks = D .looks ∙ taken .looks;
+            tally = same-tally (same-insertions (D .tally) ∙ same-insertions (taken .tally)) (same-decreases (D .tally) ∙ same-decreases (taken .tally))
+                (omega (arith, same-shifts (D .tally), same-shifts (taken .tally), shifted)) (same-looks (D .tally) ∙ same-looks (taken .tally));
           }
 
           listed-removal : Removal X before h (lists w₃ (l .distances) (l .parents) (set (l .roster) (s .reached) v)) s′ v

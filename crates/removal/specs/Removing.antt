@@ -3,10 +3,7 @@ use Prim.Native.Nat.{ℕ, _≤_}
 use mathlib.Core.List.{List}
 use lib.ListN.{length}
 use Rattle.theory.specs.Heap.{Heap, heapRemove}
-use Rattle.theory.proofs.Search.Nearest.{Labelled, Least}
-use Rattle.theory.proofs.Heap.Buckets.{Fits}
-use Rattle.theory.proofs.Heap.Shift.{seg}
-use Rattle.theory.proofs.Heap.Run.{Resting}
+use Rattle.theory.specs.Invariants.{Labelled, Least, Fits, seg, Resting}
 use Rattle.state.specs.declared.Layout.{Layout}
 use Rattle.state.specs.declared.State.{State}
 use Rattle.state.specs.Stands.{Setting, Lists, Stands}

@@ -5,24 +5,27 @@ use mathlib.Core.Path.{_≡_}
 use mathlib.Core.List.{List}
 use Rattle.model.specs.declared.RunAnswer.{RunAnswer}
 use Rattle.model.specs.Answers.{numbersOf}
-use Rattle.runs.specs.Promise.{Lent, OneLevelPromised, TwoLevelPromised}
+use Rattle.theory.specs.Runs.{Inputs, Levels, one, two}
+use Rattle.runs.specs.Promise.{Lent, Promised}
 use Rattle.route.specs.declared.RouteAnswer.{RouteAnswer}
 use Rattle.route.specs.Routes.{routeNumbersOf, RoutePromised}
 use Rattle.reader.specs.declared.PlanAnswer.{PlanAnswer}
 use Rattle.reader.specs.Promise.{planNumbersOf, PlanPromised}
 use Rattle.answer_words.specs.Words.{runWords, routeWords, readWords}
 
--- The one-level run: its promise, and the numbers of its answer (document 01, "One-level heap" and "What a call returns").
-pub record OneLevelHanded (n C source : ℕ) (starts heads costs : List ℕ) (l l′ : Lent) (numbers′ : List ℕ) : Type 0 where
+-- A run: its promise, and the numbers of its answer (document 01, "What a call returns").
+pub record RunHanded (L : Levels) (I : Inputs) (l l′ : Lent) (numbers′ : List ℕ) : Type 0 where
   pub answer : RunAnswer
-  pub promised : OneLevelPromised n C source starts heads costs answer l l′
+  pub promised : Promised L I answer l l′
   pub numbers : numbers′ ≡ runWords (numbersOf answer)
 
--- The two-level run: its promise, and the numbers of its answer (document 01, "Two-level heap" and "What a call returns").
-pub record TwoLevelHanded (n C source K : ℕ) (starts heads costs : List ℕ) (l l′ : Lent) (numbers′ : List ℕ) : Type 0 where
-  pub answer : RunAnswer
-  pub promised : TwoLevelPromised n C source K starts heads costs answer l l′
-  pub numbers : numbers′ ≡ runWords (numbersOf answer)
+-- The one-level run (document 01, "One-level heap").
+abbrev pub OneLevelHanded : Inputs → (l l′ : Lent) → (numbers′ : List ℕ) → Type 0
+OneLevelHanded = RunHanded one
+
+-- The two-level run (document 01, "Two-level heap").
+abbrev pub TwoLevelHanded : (K : ℕ) → Inputs → (l l′ : Lent) → (numbers′ : List ℕ) → Type 0
+TwoLevelHanded K = RunHanded (two K)
 
 -- A route: its promise, and the numbers of its answer (document 01, "Routes" and "What a call returns").
 pub record RouteHanded (n source : ℕ) (starts heads parents : List ℕ) (destination : ℕ) (words words′ numbers′ : List ℕ) : Type 0 where

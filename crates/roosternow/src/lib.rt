@@ -4,6 +4,7 @@ use answer_words::read_words;
 use answer_words::route_words;
 use answer_words::run_words;
 use model::Node;
+ghost use Rattle.theory.specs.Runs.{inputs};
 ghost use Rattle.runs.specs.Promise.{lent};
 ghost use Rattle.planning.specs.Planning.{planLists, PlanningPromised};
 ghost use Rattle.roosternow.specs.Handing.{OneLevelHanded, TwoLevelHanded, RouteHanded, ReadHanded};
@@ -23,7 +24,7 @@ pub extern "C" fn roosternow_one_level(
     work: &mut [u32],
     numbers: &mut [u64; 7],
 )
-    ensures { λ _. ⌜ OneLevelHanded n ceiling source (now (starts .entry)) (now (heads .entry)) (now (costs .entry))
+    ensures { λ _. ⌜ OneLevelHanded (inputs n ceiling source (now (starts .entry)) (now (heads .entry)) (now (costs .entry)))
         (lent (now (distances .entry)) (now (parents .entry)) (now (roster .entry)) (now (work .entry)))
         (lent (now (distances .exit)) (now (parents .exit)) (now (roster .exit)) (now (work .exit))) (now (numbers .exit)) ⌝ }
 {
@@ -58,7 +59,7 @@ pub extern "C" fn roosternow_two_level(
     work: &mut [u32],
     numbers: &mut [u64; 7],
 )
-    ensures { λ _. ⌜ TwoLevelHanded n ceiling source segments (now (starts .entry)) (now (heads .entry)) (now (costs .entry))
+    ensures { λ _. ⌜ TwoLevelHanded segments (inputs n ceiling source (now (starts .entry)) (now (heads .entry)) (now (costs .entry)))
         (lent (now (distances .entry)) (now (parents .entry)) (now (roster .entry)) (now (work .entry)))
         (lent (now (distances .exit)) (now (parents .exit)) (now (roster .exit)) (now (work .exit))) (now (numbers .exit)) ⌝ }
 {

@@ -15,6 +15,7 @@ use Rattle.theory.proofs.Cases.{differ}
 use Rattle.theory.proofs.Lists.{getD-inside, getD-replicate-same}
 use Rattle.check_numbers.specs.Numbers.{faultIf}
 use Rattle.check_lists.proofs.Words.{costs-pass}
+use Rattle.theory.specs.Runs.{inputs}
 use Rattle.checks.specs.Checks.{firstFault, sizeChecks, mapChecks}
 use Rattle.checks.proofs.Order.{Made, AllPass, none, more, passed-all, all-passed, first-passed, rest-pass, pass-parts, stopped, gone-on}
 use Rattle.checks.proofs.Sizes.{passed-range, passed-source, passed-heads, ceiling-passes, arcs-pass, passed-starts, passed-lent}
@@ -33,7 +34,7 @@ sizes-pass n source starts heads (more nodes (more from (more count (more words 
 
 module _ (n source : ℕ) (starts heads : List ℕ) where
   map-passes : (parents : ℕ) → AllPass (tableChecks n source starts heads parents)
-      → AllPass (mapChecks n 0 source starts heads (replicate (length heads) 0)) × (n ≤ parents)
+      → AllPass (mapChecks (inputs n 0 source starts heads (replicate (length heads) 0))) × (n ≤ parents)
   unfolding tableSizeChecks tableChecks sizeChecks mapChecks
   map-passes parents (more nodes (more from (more count (more words (more rise (more below (more long none))))))) = (
     more nodes
@@ -50,7 +51,7 @@ module _ (n source : ℕ) (starts heads : List ℕ) where
   pub passed-table : (parents : List ℕ) → firstFault (tableChecks n source starts heads (length parents)) ≡ Passed → Table n source starts heads parents
   passed-table parents e =
       let p = map-passes (length parents) (passed-all (tableChecks n source starts heads (length parents)) e) in
-      record { valid = passed-valid n 0 source starts heads (replicate (length heads) 0) (all-passed (p .0)); long = p .1 }
+      record { valid = passed-valid (inputs n 0 source starts heads (replicate (length heads) 0)) (all-passed (p .0)); long = p .1 }
 
 -- ---- the destination
 

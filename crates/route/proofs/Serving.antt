@@ -1,39 +1,36 @@
 -- For every accepted run and every node that it reaches, the route by the run's parents is a route of the map, costs the distance, and is
 -- accepted where the list has room. Assumes nothing.
-use Prim.Native.Nat.{ℕ, suc, _+_, _-_, _≤_, _<_}
+use Prim.Native.Nat.{ℕ, _+_, _-_, _≤_, _<_}
 use native.Mathlib.Omega.{arith}
 use mathlib.Core.Path.{_≡_, refl, sym, _∙_, ap, subst}
-use mathlib.Core.Bool.{Bool, true, false, cond, not, _&&_}
 use mathlib.Core.Logic.{_≢_, inl, inr}
 use mathlib.Core.List.{List, [], _∷_, _++_}
-use lib.Dec.{ltb, leb, eqb}
-use lib.ListN.{length, getD, drop, length-append, List·getD-append}
+use lib.ListN.{length, drop, length-append, List·getD-append}
 use borrow.Author.Tests.{lt-leb, le-ltb, eq-eqb, ne-eqb}
 use Rattle.model.specs.declared.Check.{Check}
-use Rattle.model.specs.declared.Check.the-variants.{Passed, Fault}
+use Rattle.model.specs.declared.Check.the-variants.{Passed}
 use Rattle.model.specs.declared.RunAnswer.{RunAnswer}
-use Rattle.theory.specs.Maps.{Map, mapOf, arcs, headOf, Leaves, Route, routeCost, Reached, SpelledRoute, parentOf, distanceOf, Valid}
+use Rattle.theory.specs.Maps.{Map, mapOf, headOf, Route, routeCost, Reached, SpelledRoute, parentOf, distanceOf, Valid}
 use Rattle.theory.specs.Maps as maps
 use Rattle.theory.specs.Demands.{CheapestRoutes}
 use Rattle.theory.proofs.Cases.{same?}
 use Rattle.theory.proofs.Maps.Arcs.{leaves-arc}
 use Rattle.theory.proofs.Maps.Routes.{spelled-route}
 use Rattle.check_numbers.specs.Numbers.{faultIf, headCountCheck}
-use Rattle.checks.specs.Checks.{firstFault, sizeChecks, mapChecks, oneLevelWork, twoLevelWork, oneLevelChecks, twoLevelChecks}
+use Rattle.theory.specs.Runs.{Inputs, inputs, Levels, stepsOf}
+use Rattle.checks.specs.Checks.{firstFault, sizeChecks, mapChecks, runChecks}
 use Rattle.checks.proofs.Order.{AllPass, none, more, passed-all, all-passed, parts-pass}
 use Rattle.checks.proofs.Sizes.{passed-arcs, lent-passes}
-use Rattle.checks.proofs.Valid.{passed-valid, valid-passed, one-level-passed, two-level-passed}
-use Rattle.theory.specs.Shape.{oneLevelBuckets, twoLevelBuckets}
-use Rattle.theory.specs.Heap.{Heap}
-use Rattle.runs.specs.Promise.{Lent, Promised, OneLevelPromised, TwoLevelPromised}
-use Rattle.walk.specs.Walk.{Walk, Nodes, nodesOf, nodesAlong}
-use Rattle.walk.proofs.Spelled.{along-length, spelled-walk, spelled-node, spelled-short}
+use Rattle.checks.proofs.Valid.{valid-passed, passed-ready}
+use Rattle.runs.specs.Promise.{Lent, lengthsOf, Ran, Promised}
+use Rattle.walk.specs.Walk.{Nodes, nodesOf, nodesAlong}
+use Rattle.walk.proofs.Spelled.{spelled-walk, spelled-node, spelled-short}
 use Rattle.route.specs.Routes.{routeWalk, tableSizeChecks, tableChecks, destinationCheck, parentCheck, walkCheck, roomCheck, routeChecks, Served}
 
 -- ---- the checks of a route over a valid map
 
 module _ (n C source : ℕ) (starts heads costs : List ℕ) where
-  table-passes : (parents : ℕ) → n ≤ parents → AllPass (mapChecks n C source starts heads costs) → AllPass (tableChecks n source starts heads parents)
+  table-passes : (parents : ℕ) → n ≤ parents → AllPass (mapChecks (inputs n C source starts heads costs)) → AllPass (tableChecks n source starts heads parents)
   unfolding tableSizeChecks tableChecks sizeChecks mapChecks faultIf
   table-passes parents long (more nodes (more ceiling (more from (more count (more words (more rise (more below (more most none)))))))) =
       let few = passed-arcs (length heads) (length costs) count .0 in
@@ -42,7 +39,7 @@ module _ (n C source : ℕ) (starts heads costs : List ℕ) where
 
   pub valid-table : (parents : ℕ) → n ≤ parents → Valid (mapOf n starts heads costs) C source → firstFault (tableChecks n source starts heads parents) ≡ Passed
   valid-table parents long v =
-      all-passed (table-passes parents long (passed-all (mapChecks n C source starts heads costs) (valid-passed n C source starts heads costs v)))
+      all-passed (table-passes parents long (passed-all (mapChecks (inputs n C source starts heads costs)) (valid-passed (inputs n C source starts heads costs) v)))
 
 -- ---- a destination that the parents spell
 
@@ -111,26 +108,11 @@ module _ {n C source : ℕ} {starts heads costs : List ℕ} (valid : Valid (mapO
       (spelled-same valid parents (parents ++ parents′)
       (λ w l. List·getD-append parents parents′ maps.none w (omega (arith, cheapest .parents-length))) (s .1)) (s .2 ∙ sym same)
 
-run-served : {n C source : ℕ} {starts heads costs : List ℕ} → Valid (mapOf n starts heads costs) C source → {check : Check} (B L needed : ℕ) {h : Heap} {r : RunAnswer} {l l′ : Lent}
-    → check ≡ Passed → Promised check (mapOf n starts heads costs) source B L needed h r l l′ → (destination : ℕ) → Reached (mapOf n starts heads costs) source destination
-    → Served (mapOf n starts heads costs) source (l′ .distances) (l′ .parents) destination
-run-served {n} {C} {source} {starts} {heads} {costs} valid {check} B L needed {h} {r} {l} {l′} e P destination reached =
-    let Q = subst (λ (k : Check). Promised k (mapOf n starts heads costs) source B L needed h r l l′) e P in
-    rw (Q .distances, Q .parents)
-    (cheapest-served valid (Q .demanded .cheapest) (drop (length (h .search .distances)) (l .distances)) (drop (length (h .search .parents)) (l .parents)) destination reached)
-
-module _ (n C source : ℕ) (starts heads costs : List ℕ) (l l′ : Lent) {r : RunAnswer} where
-  pub one-level-served : firstFault (oneLevelChecks n C source starts heads costs (length (l .distances)) (length (l .parents)) (length (l .roster)) (length (l .work))) ≡ Passed
-      → OneLevelPromised n C source starts heads costs r l l′ → (destination : ℕ) → Reached (mapOf n starts heads costs) source destination
-      → Served (mapOf n starts heads costs) source (l′ .distances) (l′ .parents) destination
-  one-level-served e P =
-      let p = one-level-passed n C source starts heads costs (length (l .distances)) (length (l .parents)) (length (l .roster)) (length (l .work)) e in
-      run-served (passed-valid n C source starts heads costs (p .0)) (oneLevelBuckets C) (oneLevelBuckets C) (oneLevelWork n) e P
-
-  pub two-level-served : (K : ℕ)
-      → firstFault (twoLevelChecks n C source K starts heads costs (length (l .distances)) (length (l .parents)) (length (l .roster)) (length (l .work))) ≡ Passed
-      → TwoLevelPromised n C source K starts heads costs r l l′ → (destination : ℕ) → Reached (mapOf n starts heads costs) source destination
-      → Served (mapOf n starts heads costs) source (l′ .distances) (l′ .parents) destination
-  two-level-served K e P =
-      let p = two-level-passed n C source starts heads costs (length (l .distances)) (length (l .parents)) (length (l .roster)) (length (l .work)) K e in
-      run-served (passed-valid n C source starts heads costs (p .0)) (twoLevelBuckets C K) (twoLevelBuckets C K + K) (twoLevelWork n) e P
+module _ (L : Levels) (I : Inputs) (l l′ : Lent) {r : RunAnswer} where
+  pub run-served : firstFault (runChecks L I (lengthsOf l)) ≡ Passed → Promised L I r l l′ → (destination : ℕ) → Reached (I .map) (I .source) destination
+      → Served (I .map) (I .source) (l′ .distances) (l′ .parents) destination
+  run-served e P destination reached =
+      let Q = subst (λ (k : Check). Ran L I k r l l′) e P in
+      rw (Q .distances, Q .parents)
+      (cheapest-served (passed-ready e .valid) (Q .demanded .cheapest)
+      (drop (length (stepsOf L I .search .distances)) (l .distances)) (drop (length (stepsOf L I .search .parents)) (l .parents)) destination reached)

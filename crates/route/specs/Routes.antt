@@ -4,9 +4,10 @@ use mathlib.Core.Bool.{not, _&&_}
 use mathlib.Core.Path.{_≡_}
 use mathlib.Core.List.{List, [], _∷_, _++_}
 use lib.Dec.{ltb, leb, eqb}
-use lib.ListN.{length, drop}
+use lib.ListN.{length}
 use Rattle.model.specs.declared.Check.{Check}
 use Rattle.model.specs.declared.Check.the-variants.{Passed, Fault}
+use Rattle.model.specs.Answers.{wordsAfter}
 use Rattle.theory.specs.Maps.{none, Map, Route, routeCost, parentOf, distanceOf}
 use Rattle.check_numbers.specs.Numbers.{faultIf, nodesCheck, sourceCheck, headCountCheck, startCountCheck, lentCheck}
 use Rattle.check_lists.specs.Lists.{startsCheck, headsCheck}
@@ -77,16 +78,10 @@ abbrev pub routeNumbers : Check → Walk → RouteNumbers
 routeNumbers Passed walk = record { returned = 0; place = 0; nodes = length (nodesOf walk) }
 routeNumbers (Fault number place) walk = record { returned = number; place = place; nodes = 0 }
 
--- The route list afterwards: the nodes, source first, and the words past them as they were; a refusal leaves all words (document 01,
--- "Routes" and "What a call returns").
-abbrev pub routeWords : Check → Walk → (words : List ℕ) → List ℕ
-routeWords Passed walk words = nodesOf walk ++ drop (length (nodesOf walk)) words
-routeWords (Fault number place) walk words = words
-
--- The promise of a route whose checks come to `check` (document 01, "Routes").
+-- The promise of a route whose checks come to `check`: the numbers, and the list with the nodes, source first (document 01, "Routes").
 pub record RouteGiven (check : Check) (walk : Walk) (answer : RouteAnswer) (words words′ : List ℕ) : Type 0 where
   pub numbers : routeNumbersOf answer ≡ routeNumbers check walk
-  pub list : words′ ≡ routeWords check walk words
+  pub list : words′ ≡ wordsAfter check (nodesOf walk) words
 
 -- The promise of a route, for every input (document 01, "Routes" and "What a call returns").
 abbrev pub RoutePromised : (n source : ℕ) → (starts heads parents : List ℕ) → (destination : ℕ) → RouteAnswer → (words words′ : List ℕ) → Type 0

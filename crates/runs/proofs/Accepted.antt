@@ -2,7 +2,7 @@
 use Prim.Native.Nat.{ℕ, _+_, _-_, _*_, _≤_, _<_}
 use native.Mathlib.Omega.{arith}
 use native.Mathlib.Nat.{mul-le-mul, mul-le-mul-left}
-use mathlib.Core.Path.{_≡_, refl, sym, _∙_, ap}
+use mathlib.Core.Path.{_≡_, refl, sym, _∙_, ap, ap₂}
 use mathlib.Core.List.{List, _++_}
 use lib.ListN.{length, take, drop, replicate, length-replicate}
 use lib.Seq.{length-take-le}
@@ -10,132 +10,89 @@ use Rattle.model.specs.declared.Check.{Check}
 use Rattle.model.specs.declared.Check.the-variants.{Passed, Fault}
 use Rattle.model.specs.declared.RunAnswer.{RunAnswer}
 use Rattle.model.specs.Answers.{numbersOf, acceptedNumbers, refusedNumbers}
-use Rattle.theory.specs.Maps.{Map, Valid, arcs, mapOf}
 use Rattle.theory.specs.Network.{network}
-use Rattle.theory.specs.Shape.{oneLevelBuckets, twoLevelBuckets, oneLevel, twoLevel}
-use Rattle.theory.specs.Heap.{Heap, heap, placements}
-use Rattle.theory.specs.Runs.{oneLevelRun, twoLevelRun}
+use Rattle.theory.specs.Heap.{heap}
 use Rattle.theory.specs.Demands.{Demanded}
-use Rattle.theory.proofs.Shapes.Logarithm.{one-level-most, two-level-most}
-use Rattle.theory.proofs.Demands.{one-level-demanded, two-level-demanded}
-use Rattle.sizes.specs.Sizes.{oneLevelSizes, twoLevelSizes}
-use Rattle.state.specs.declared.Layout.{Layout}
+use Rattle.theory.proofs.Demands.{allowed-segmented, run-demanded}
+use Rattle.state.specs.declared.Tally.{Tally}
 use Rattle.state.specs.declared.State.{State}
+use Rattle.state.proofs.Tallies.{same-insertions, same-decreases, same-shifts}
 use Rattle.state.specs.Stands.{Setting}
 use Rattle.search.specs.Starts.{Starts}
-use Rattle.search.specs.Running.{Runs}
-use Rattle.checks.specs.Checks.{firstFault, oneLevelChecks, twoLevelChecks, oneLevelWork, twoLevelWork}
-use Rattle.checks.proofs.Valid.{passed-valid, one-level-passed, two-level-passed}
-use Rattle.runs.specs.Promise.{Lent, Promised}
-use Rattle.runs.specs.Parts.{Ready, RunsOn, Ended}
-use Rattle.runs.proofs.Settings.{layoutOf, oneSetting, twoSetting, one-fits, two-fits}
+use Rattle.theory.specs.Runs.{Inputs, ValidInputs, Levels, one, two, Allowed, heapBuckets, segmentCount, removalLooks, workWords, stepsOf}
+use Rattle.checks.specs.Checks.{Ready}
+use Rattle.runs.specs.Promise.{Lent, Ran, lengthsOf}
+use Rattle.runs.specs.Parts.{countsTold, Built, RunsOn, SomeRunsOn, Ended}
+use Rattle.runs.proofs.Settings.{layoutOf, few-buckets, setting, buckets-two, slots-few, top-same, work-fits}
 
 -- u(B) fits a word.
-pub top-few : {M : Map} {C source : ℕ} → Valid M C source → M .nodes * C + 1 < 4294967296
-top-few {M} {C} valid = omega (arith, mul-le-mul (valid .few-nodes) (valid .low-ceiling))
+pub top-few : {I : Inputs} → ValidInputs I → I .map .nodes * I .ceiling + 1 < 4294967296
+top-few valid = omega (arith, mul-le-mul (valid .few-nodes) (valid .low-ceiling))
 
--- The numbers and lists of steps that meet the demands.
-module _ {M : Map} {source B L needed : ℕ} {h : Heap} (D : Demanded M source B L h) {l l′ : Lent} {s : State} (E : Ended h needed l l′ s) where
-  pub placements-few : {C : ℕ} → Valid M C source → B ≤ 22 → s .tally .insertions + s .tally .decreases + s .tally .shifts < 4294967296
-  placements-few valid few =
-      let r : length (h .search .roster) * B ≤ length (h .search .roster) * 22 = mul-le-mul-left (length (h .search .roster)) few in
-      omega (arith, E .insertions, E .decreases, E .shifts, D .counts .placed, D .counts .few, valid .few-nodes, valid .few-arcs)
+module _ {L : Levels} {I : Inputs} (l : Lent) (ready : Ready L I (lengthsOf l)) where
+  abbrev D : Demanded (I .map) (I .source) (heapBuckets L (I .ceiling)) (removalLooks L (I .ceiling)) (stepsOf L I)
+  D = run-demanded (ready .valid) L (allowed-segmented L (ready .allowed))
 
-  pub ended-promised : {r : RunAnswer}
-      → numbersOf r ≡ acceptedNumbers (s .reached) B (s .tally .decreases) (s .tally .insertions + s .tally .decreases + s .tally .shifts) (s .tally .looks)
-      → Promised Passed M source B L needed h r l l′
-  ended-promised q = record {
-    numbers = q ∙ cc (E .reached, E .insertions, E .decreases, E .shifts, E .looks);
-    distances = E .distances;
-    parents = E .parents;
-    roster = record { order = h .search .roster; count = refl; each-once = D .counts .roster; filled = E .roster };
-    work = E .work ∙ ap (λ (k : ℕ). replicate needed 0 ++ drop k (l .work)) (sym (length-replicate needed 0));
-    demanded = D;
-  }
+  -- The numbers and lists of the steps.
+  module _ {l′ : Lent} {s : State} (E : Ended (stepsOf L I) (workWords L (I .map .nodes)) l l′ s) where
+    pub placements-few : s .tally .insertions + s .tally .decreases + s .tally .shifts < 4294967296
+    placements-few =
+        let r = mul-le-mul-left (length (stepsOf L I .search .roster)) (few-buckets (I .map .nodes) (I .ceiling) (ready .valid .low-ceiling) L) in
+        omega (arith, r, same-insertions (E .tally), same-decreases (E .tally), same-shifts (E .tally), D .counts .placed, D .counts .few, ready .valid .few-nodes, ready .valid .few-arcs)
 
--- The lists are long enough for the parts that a run fills.
-module _ {M : Map} {C source needed : ℕ} {l : Lent} (ready : Ready M C source needed l) where
-  one-starts : needed ≡ 4 * M .nodes + 64 → Starts (oneSetting (ready .valid)) (take needed (l .work)) (take (M .nodes) (l .distances)) (take (M .nodes) (l .parents)) (M .nodes * C + 1) source
-  unfolding network oneLevel
-  one-starts e = record {
+    pub ended-ran : {r : RunAnswer}
+        → numbersOf r ≡ acceptedNumbers (s .reached) (heapBuckets L (I .ceiling)) (countsTold (s .tally))
+        → Ran L I Passed r l l′
+    ended-ran q = record {
+      numbers = q ∙ ap₂ (λ (r : ℕ) (t : Tally). acceptedNumbers r (heapBuckets L (I .ceiling)) (countsTold t)) (E .reached) (E .tally);
+      distances = E .distances;
+      parents = E .parents;
+      roster = record { order = stepsOf L I .search .roster; count = refl; each-once = D .counts .roster; filled = E .roster };
+      work = E .work ∙ ap (λ (k : ℕ). replicate (workWords L (I .map .nodes)) 0 ++ drop k (l .work)) (sym (length-replicate (workWords L (I .map .nodes)) 0));
+      demanded = D;
+    }
+
+  -- The lists are long enough for the parts that a run fills.
+  starts : Starts (setting ready) (take (workWords L (I .map .nodes)) (l .work)) (take (I .map .nodes) (l .distances)) (take (I .map .nodes) (l .parents)) (I .map .nodes * I .ceiling + 1) (I .source)
+  unfolding network
+  starts = record {
     source-is = refl;
-    top-is = refl;
-    fits = rw (length-take-le needed (l .work) (ready .work-fit), e) (one-fits (M .nodes) C (ready .valid .few-nodes) (ready .valid .low-ceiling));
-    distances-long = length-take-le (M .nodes) (l .distances) (ready .distances-fit);
-    parents-long = length-take-le (M .nodes) (l .parents) (ready .parents-fit);
+    top-is = top-same ready;
+    fits = rw (length-take-le (workWords L (I .map .nodes)) (l .work) (ready .work-fit)) (work-fits ready);
+    distances-long = length-take-le (I .map .nodes) (l .distances) (ready .distances-fit);
+    parents-long = length-take-le (I .map .nodes) (l .parents) (ready .parents-fit);
   }
 
-  pub one-runs-on : needed ≡ 4 * M .nodes + 64 → RunsOn (oneSetting (ready .valid)) M source (M .nodes * C + 1) needed l
-  one-runs-on e = record {
-    runs = record { valid = ready .valid; network-is = refl; starts = one-starts e; roster-long = ready .roster-fit };
+  pub runs-on : RunsOn (setting ready) (I .map) (I .source) (I .map .nodes * I .ceiling + 1) (workWords L (I .map .nodes)) l
+  runs-on = record {
+    runs = record { valid = ready .valid; network-is = refl; starts = starts; roster-long = ready .roster-fit };
     distances-fit = ready .distances-fit;
     parents-fit = ready .parents-fit;
     work-fit = ready .work-fit;
   }
 
-  -- What the core leaves, of numbers and sizes that are known to be those of the one-level heap.
-  pub one-ended : needed ≡ 4 * M .nodes + 64 → {B : ℕ} {sizes : List ℕ} {l′ : Lent} {s : State} → B ≡ oneLevelBuckets C → sizes ≡ oneLevelSizes
-      → ((X : Setting (layoutOf (M .nodes) B 1 B) sizes) → RunsOn X M source (M .nodes * C + 1) needed l → Ended (heap (X .network) (X .shape)) needed l l′ s)
-      → Ended (oneLevelRun M C source) needed l l′ s
-  unfolding oneLevelRun
-  one-ended e b z left = (rw (b, z) at left) (oneSetting (ready .valid)) (one-runs-on e)
+-- Numbers and sizes that are known to be those of the heap.
+module _ {L : Levels} {I : Inputs} {B K needed : ℕ} {sizes : List ℕ} (l : Lent) (built : Built L I B K sizes needed l) where
+  pub built-two : 2 ≤ B
+  built-two = rw (built .buckets-are) (buckets-two (built .ready))
 
-  module _ {K : ℕ} (low : 2 ≤ K) (high : K ≤ 64) where
-    two-starts : needed ≡ 4 * M .nodes + 384
-        → Starts (twoSetting (ready .valid) low high) (take needed (l .work)) (take (M .nodes) (l .distances)) (take (M .nodes) (l .parents)) (M .nodes * C + 1) source
-    unfolding network twoLevel
-    two-starts e = record {
-      source-is = refl;
-      top-is = refl;
-      fits = rw (length-take-le needed (l .work) (ready .work-fit), e) (two-fits (M .nodes) C K (ready .valid .few-nodes) (ready .valid .low-ceiling) low high);
-      distances-long = length-take-le (M .nodes) (l .distances) (ready .distances-fit);
-      parents-long = length-take-le (M .nodes) (l .parents) (ready .parents-fit);
-    }
+  pub built-slots : (B - 1) * K ≤ 300
+  built-slots = rw (built .buckets-are, built .segments-are) (slots-few (built .ready))
 
-    pub two-runs-on : needed ≡ 4 * M .nodes + 384 → RunsOn (twoSetting (ready .valid) low high) M source (M .nodes * C + 1) needed l
-    two-runs-on e = record {
-      runs = record { valid = ready .valid; network-is = refl; starts = two-starts e; roster-long = ready .roster-fit };
-      distances-fit = ready .distances-fit;
-      parents-fit = ready .parents-fit;
-      work-fit = ready .work-fit;
-    }
+  pub built-runs : SomeRunsOn (layoutOf (I .map .nodes) B K ((B - 1) * K + 1)) sizes (I .map .starts) (I .map .heads) (I .map .costs) (I .source) (I .map .nodes * I .ceiling + 1) needed l
+  built-runs =
+      rw (built .buckets-are, built .segments-are, built .sizes-are, built .needed-are)
+      (record { setting = setting (built .ready); runs-on = runs-on l (built .ready) })
 
-    -- The same of the two-level heap.
-    pub two-ended : needed ≡ 4 * M .nodes + 384 → {B : ℕ} {sizes : List ℕ} {l′ : Lent} {s : State} → B ≡ twoLevelBuckets C K → sizes ≡ twoLevelSizes K
-        → ((X : Setting (layoutOf (M .nodes) B K ((B - 1) * K + 1)) sizes) → RunsOn X M source (M .nodes * C + 1) needed l → Ended (heap (X .network) (X .shape)) needed l l′ s)
-        → Ended (twoLevelRun M C source K) needed l l′ s
-    unfolding twoLevelRun
-    two-ended e b z left = (rw (b, z) at left) (twoSetting (ready .valid) low high) (two-runs-on e)
+  -- What the core leaves.
+  pub built-ended : {l′ : Lent} {s : State}
+      → ((X : Setting (layoutOf (I .map .nodes) B K ((B - 1) * K + 1)) sizes) → RunsOn X (I .map) (I .source) (I .map .nodes * I .ceiling + 1) needed l → Ended (heap (X .network) (X .shape)) needed l l′ s)
+      → Ended (stepsOf L I) (workWords L (I .map .nodes)) l l′ s
+  unfolding stepsOf
+  built-ended left =
+      (rw (built .buckets-are, built .segments-are, built .sizes-are, built .needed-are) at left) (setting (built .ready)) (runs-on l (built .ready))
 
 -- A refusal leaves every list as it was.
-pub refused-promised : {check : Check} {M : Map} {source B L needed number place : ℕ} {h : Heap} {r : RunAnswer} {l : Lent} → check ≡ Fault number place
-    → numbersOf r ≡ refusedNumbers number place → Promised check M source B L needed h r l l
-refused-promised e q = rw e (record { numbers = q; distances = refl; parents = refl; roster = refl; work = refl; demanded = tt })
-
--- What the checks of each run show.
-module _ {n C source : ℕ} {starts heads costs : List ℕ} {l : Lent} where
-  pub one-ready : firstFault (oneLevelChecks n C source starts heads costs (length (l .distances)) (length (l .parents)) (length (l .roster)) (length (l .work))) ≡ Passed
-      → Ready (mapOf n starts heads costs) C source (oneLevelWork n) l
-  one-ready e =
-      let p = one-level-passed n C source starts heads costs (length (l .distances)) (length (l .parents)) (length (l .roster)) (length (l .work)) e in
-      record {
-        valid = passed-valid n C source starts heads costs (p .0);
-        distances-fit = p .1 .distances-fit;
-        parents-fit = p .1 .parents-fit;
-        roster-fit = p .1 .roster-fit;
-        work-fit = p .1 .work-fit;
-      }
-
-  pub two-ready : {K : ℕ} → firstFault (twoLevelChecks n C source K starts heads costs (length (l .distances)) (length (l .parents)) (length (l .roster)) (length (l .work))) ≡ Passed
-      → Ready (mapOf n starts heads costs) C source (twoLevelWork n) l × ((2 ≤ K) × (K ≤ 64))
-  two-ready {K} e =
-      let p = two-level-passed n C source starts heads costs (length (l .distances)) (length (l .parents)) (length (l .roster)) (length (l .work)) K e in (
-        record {
-          valid = passed-valid n C source starts heads costs (p .0);
-          distances-fit = p .2 .distances-fit;
-          parents-fit = p .2 .parents-fit;
-          roster-fit = p .2 .roster-fit;
-          work-fit = p .2 .work-fit;
-        },
-        p .1,
-      )
+pub refused-ran : {L : Levels} {I : Inputs} {check : Check} {number place : ℕ} {r : RunAnswer} {l : Lent} → check ≡ Fault number place
+    → numbersOf r ≡ refusedNumbers number place → Ran L I check r l l
+refused-ran e q = rw e (record { numbers = q; distances = refl; parents = refl; roster = refl; work = refl; demanded = tt })

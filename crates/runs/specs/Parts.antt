@@ -1,23 +1,37 @@
 -- A run on the words that it fills of each lent list.
-use Prim.Native.Nat.{ℕ, _≤_}
+use Prim.Native.Nat.{ℕ, _+_, _≤_}
 use mathlib.Core.Path.{_≡_}
 use mathlib.Core.List.{List, _++_}
 use lib.ListN.{length, take, drop, replicate}
-use Rattle.theory.specs.Maps.{Map, Valid, mapOf}
+use Rattle.model.specs.declared.Check.the-variants.{Passed}
+use Rattle.model.specs.declared.Counts.{Counts}
+use Rattle.model.specs.Answers.{wordsAfter}
+use Rattle.theory.specs.Maps.{Map, mapOf}
 use Rattle.theory.specs.Heap.{Heap, heap}
 use Rattle.state.specs.declared.Layout.{Layout}
+use Rattle.state.specs.declared.Tally.{Tally}
 use Rattle.state.specs.declared.State.{State}
+use Rattle.state.specs.Tallies.{countsOf}
 use Rattle.state.specs.Stands.{Setting}
 use Rattle.search.specs.Running.{Runs}
-use Rattle.runs.specs.Promise.{Lent}
+use Rattle.sizes.specs.Sizes.{sizesOf}
+use Rattle.theory.specs.Runs.{Inputs, Levels, heapBuckets, segmentCount, workWords}
+use Rattle.checks.specs.Checks.{Ready}
+use Rattle.runs.specs.Promise.{Lent, lengthsOf}
 
--- What the checks of a run show: a map and lists that it can be made on (document 01, "What a call returns").
-pub record Ready (M : Map) (C source needed : ℕ) (l : Lent) : Type 0 where
-  pub valid : Valid M C source
-  pub distances-fit : M .nodes ≤ length (l .distances)
-  pub parents-fit : M .nodes ≤ length (l .parents)
-  pub roster-fit : M .nodes ≤ length (l .roster)
-  pub work-fit : needed ≤ length (l .work)
+-- Inputs and lists that have passed the checks of a run, and numbers of its heap: B buckets of K segments, their sizes, and the work
+-- words needed (document 01, "What a call returns", "One-level heap" and "Two-level heap").
+pub record Built (L : Levels) (I : Inputs) (B K : ℕ) (sizes : List ℕ) (needed : ℕ) (l : Lent) : Type 0 where
+  pub ready : Ready L I (lengthsOf l)
+  pub buckets-are : B ≡ heapBuckets L (I .ceiling)
+  pub segments-are : K ≡ segmentCount L
+  pub sizes-are : sizes ≡ sizesOf L
+  pub needed-are : needed ≡ workWords L (I .map .nodes)
+
+-- They are so of some kind of heap (document 01, "One-level heap" and "Two-level heap").
+pub record SomeBuilt (I : Inputs) (B K : ℕ) (sizes : List ℕ) (needed : ℕ) (l : Lent) : Type 0 where
+  pub levels : Levels
+  pub built : Built levels I B K sizes needed l
 
 -- The lent lists hold the words that a run fills, of which `needed` are work words (document 01, "What the planner holds and
 -- leaves out").
@@ -34,12 +48,13 @@ pub record SomeRunsOn (layout : Layout) (sizes starts heads costs : List ℕ) (s
 
 -- The lists hold what the steps h leave, the scan order included, and the numbers are those of h (document 01, "The tallies").
 pub record Ended (h : Heap) (needed : ℕ) (l l′ : Lent) (s : State) : Type 0 where
-  pub distances : l′ .distances ≡ h .search .distances ++ drop (length (h .search .distances)) (l .distances)
-  pub parents : l′ .parents ≡ h .search .parents ++ drop (length (h .search .parents)) (l .parents)
-  pub roster : l′ .roster ≡ h .search .roster ++ drop (length (h .search .roster)) (l .roster)
+  pub distances : l′ .distances ≡ wordsAfter Passed (h .search .distances) (l .distances)
+  pub parents : l′ .parents ≡ wordsAfter Passed (h .search .parents) (l .parents)
+  pub roster : l′ .roster ≡ wordsAfter Passed (h .search .roster) (l .roster)
   pub work : l′ .work ≡ replicate needed 0 ++ drop needed (l .work)
   pub reached : s .reached ≡ length (h .search .roster)
-  pub insertions : s .tally .insertions ≡ h .search .insertions
-  pub decreases : s .tally .decreases ≡ h .search .decreases
-  pub shifts : s .tally .shifts ≡ h .shifts
-  pub looks : s .tally .looks ≡ h .looks
+  pub tally : s .tally ≡ countsOf h
+
+-- The counts of a run, from its tallies (document 01, "The tallies": placements are insertions, decreases and shifts).
+abbrev pub countsTold : Tally → Counts
+countsTold t = record { decreases = t .decreases; placements = t .insertions + t .decreases + t .shifts; looks = t .looks }

@@ -1,23 +1,27 @@
 -- What the entry points promise for every input (document 01, "What the planner holds and leaves out" and "What a call returns").
-use Prim.Native.Nat.{ℕ, _+_}
+use Prim.Native.Nat.{ℕ}
 use mathlib.Core.Path.{_≡_}
 use mathlib.Core.List.{List, _++_}
 use lib.ListN.{length, drop, replicate}
 use Rattle.model.specs.declared.Check.{Check}
 use Rattle.model.specs.declared.Check.the-variants.{Passed, Fault}
+use Rattle.model.specs.declared.Counts.{Counts}
 use Rattle.model.specs.declared.RunAnswer.{RunAnswer}
 use Rattle.model.specs.Answers.{Numbers, numbersOf, acceptedNumbers, refusedNumbers, wordsAfter}
-use Rattle.theory.specs.Maps.{Map, Reached, mapOf}
-use Rattle.theory.specs.Shape.{oneLevelBuckets, twoLevelBuckets}
+use Rattle.theory.specs.Maps.{Map, Reached}
 use Rattle.theory.specs.Heap.{Heap, placements}
-use Rattle.theory.specs.Runs.{oneLevelRun, twoLevelRun}
 use Rattle.theory.specs.Demands.{Roster, Demanded}
-use Rattle.checks.specs.Checks.{firstFault, oneLevelChecks, twoLevelChecks, oneLevelWork, twoLevelWork}
+use Rattle.theory.specs.Runs.{Inputs, Levels, one, two, heapBuckets, removalLooks, workWords, stepsOf}
+use Rattle.checks.specs.Checks.{firstFault, runChecks, Lengths}
+
+-- The counts given back of the steps h (document 01, "The tallies").
+abbrev pub countsGiven : Heap → Counts
+countsGiven h = record { decreases = h .search .decreases; placements = placements h; looks = h .looks }
 
 -- The numbers given back: those of the steps h with B buckets, or the first fault's (document 01, "What a call returns" and "The
 -- tallies").
 abbrev pub runNumbers : Check → (B : ℕ) → (h : Heap) → Numbers
-runNumbers Passed B h = acceptedNumbers (length (h .search .roster)) B (h .search .decreases) (placements h) (h .looks)
+runNumbers Passed B h = acceptedNumbers (length (h .search .roster)) B (countsGiven h)
 runNumbers (Fault number place) B h = refusedNumbers number place
 
 -- The roster of an accepted run: its first r words are each reached node once by nondecreasing distance, and the words from r on
@@ -45,40 +49,32 @@ pub record Lent : Type 0 where
   pub roster : List ℕ
   pub work : List ℕ
 
--- A run whose checks in order come to `check` and whose steps are h: the answer, what each lent list holds afterwards, of which
--- `needed` work words are 0, and the demands (document 01, "What a call returns" and "The tallies").
-pub record Promised (check : Check) (M : Map) (source B L needed : ℕ) (h : Heap) (r : RunAnswer) (l l′ : Lent) : Type 0 where
-  pub numbers : numbersOf r ≡ runNumbers check B h
-  pub distances : l′ .distances ≡ wordsAfter check (h .search .distances) (l .distances)
-  pub parents : l′ .parents ≡ wordsAfter check (h .search .parents) (l .parents)
-  pub roster : RosterAfter check M source h (l .roster) (l′ .roster)
-  pub work : l′ .work ≡ wordsAfter check (replicate needed 0) (l .work)
-  pub demanded : RunDemanded check M source B L h
-
--- The one-level run whose checks come to `check` (document 01, "One-level heap").
-abbrev pub OneLevelRan : Check → (n C source : ℕ) → (starts heads costs : List ℕ) → RunAnswer → (l l′ : Lent) → Type 0
-OneLevelRan check n C source starts heads costs r l l′ =
-    let M : Map = mapOf n starts heads costs in
-    Promised check M source (oneLevelBuckets C) (oneLevelBuckets C) (oneLevelWork n) (oneLevelRun M C source) r l l′
-
--- The two-level run whose checks come to `check` (document 01, "Two-level heap").
-abbrev pub TwoLevelRan : Check → (n C source K : ℕ) → (starts heads costs : List ℕ) → RunAnswer → (l l′ : Lent) → Type 0
-TwoLevelRan check n C source K starts heads costs r l l′ =
-    let M : Map = mapOf n starts heads costs in
-    Promised check M source (twoLevelBuckets C K) (twoLevelBuckets C K + K) (twoLevelWork n) (twoLevelRun M C source K) r l l′
-
--- The one-level run for every input: checks 1 to 8 and 10 in order (document 01, "What a call returns").
-abbrev pub OneLevelPromised : (n C source : ℕ) → (starts heads costs : List ℕ) → RunAnswer → (l l′ : Lent) → Type 0
-OneLevelPromised n C source starts heads costs r l l′ =
-    OneLevelRan (firstFault (oneLevelChecks n C source starts heads costs (length (l .distances)) (length (l .parents)) (length (l .roster)) (length (l .work))))
-    n C source starts heads costs r l l′
-
--- The two-level run for every input: checks 1 to 10 in order (document 01, "What a call returns").
-abbrev pub TwoLevelPromised : (n C source K : ℕ) → (starts heads costs : List ℕ) → RunAnswer → (l l′ : Lent) → Type 0
-TwoLevelPromised n C source K starts heads costs r l l′ =
-    TwoLevelRan (firstFault (twoLevelChecks n C source K starts heads costs (length (l .distances)) (length (l .parents)) (length (l .roster)) (length (l .work))))
-    n C source K starts heads costs r l l′
-
 -- The four lent lists from their parts (document 01, "What the planner holds and leaves out").
 abbrev pub lent : (distances parents roster work : List ℕ) → Lent
 lent distances parents roster work = record { distances = distances; parents = parents; roster = roster; work = work }
+
+-- How long they are (document 01, "What a call returns").
+abbrev pub lengthsOf : Lent → Lengths
+lengthsOf l = record { distances = length (l .distances); parents = length (l .parents); roster = length (l .roster); work = length (l .work) }
+
+-- A run whose checks in order come to `check`: the answer, what each lent list holds afterwards, and the demands (document 01,
+-- "What a call returns" and "The tallies").
+pub record Ran (L : Levels) (I : Inputs) (check : Check) (r : RunAnswer) (l l′ : Lent) : Type 0 where
+  pub numbers : numbersOf r ≡ runNumbers check (heapBuckets L (I .ceiling)) (stepsOf L I)
+  pub distances : l′ .distances ≡ wordsAfter check (stepsOf L I .search .distances) (l .distances)
+  pub parents : l′ .parents ≡ wordsAfter check (stepsOf L I .search .parents) (l .parents)
+  pub roster : RosterAfter check (I .map) (I .source) (stepsOf L I) (l .roster) (l′ .roster)
+  pub work : l′ .work ≡ wordsAfter check (replicate (workWords L (I .map .nodes)) 0) (l .work)
+  pub demanded : RunDemanded check (I .map) (I .source) (heapBuckets L (I .ceiling)) (removalLooks L (I .ceiling)) (stepsOf L I)
+
+-- A run for every input: its checks in order (document 01, "What a call returns").
+abbrev pub Promised : Levels → Inputs → RunAnswer → (l l′ : Lent) → Type 0
+Promised L I r l l′ = Ran L I (firstFault (runChecks L I (lengthsOf l))) r l l′
+
+-- The one-level run for every input: checks 1 to 8 and 10 in order (document 01, "What a call returns").
+abbrev pub OneLevelPromised : Inputs → RunAnswer → (l l′ : Lent) → Type 0
+OneLevelPromised = Promised one
+
+-- The two-level run for every input: checks 1 to 10 in order (document 01, "What a call returns").
+abbrev pub TwoLevelPromised : (K : ℕ) → Inputs → RunAnswer → (l l′ : Lent) → Type 0
+TwoLevelPromised K = Promised (two K)

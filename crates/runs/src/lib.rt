@@ -1,35 +1,32 @@
 // The two runs that callers use: each makes its own checks, plans with the shared core, and leaves its work words at 0 (document 01,
 // "What the planner holds and leaves out" and "What a call returns").
 use model::Check;
+use model::Counts;
 use model::Node;
 use model::RunAnswer;
 use state::Layout;
 use state::State;
+use state::Tally;
 ghost use mathlib.Core.Path.{_≡_};
-ghost use Prim.Native.Nat.{_+_, _*_, _≤_, _<_};
+ghost use Prim.Native.Nat.{_+_, _<_};
 ghost use Rattle.model.specs.declared.Check.the-variants.{Passed};
-ghost use Rattle.model.specs.Answers.{numbersOf, acceptedNumbers};
 ghost use Rattle.theory.specs.Maps.{mapOf};
 ghost use Rattle.theory.specs.Heap.{heap};
 ghost use Rattle.state.specs.Stands.{Setting};
-ghost use Rattle.checks.specs.Checks.{oneLevelWork, twoLevelWork};
-ghost use Rattle.runs.specs.Promise.{OneLevelRan, TwoLevelRan, OneLevelPromised, TwoLevelPromised, lent};
-ghost use Rattle.runs.specs.Parts.{Ready, RunsOn, SomeRunsOn, Ended};
+ghost use Rattle.theory.specs.Runs.{Levels, inputs};
+ghost use Rattle.runs.specs.Promise.{Ran, OneLevelPromised, TwoLevelPromised, lent};
+ghost use Rattle.runs.specs.Parts.{countsTold, Built, SomeBuilt, RunsOn, SomeRunsOn, Ended};
 
-// The numbers of an accepted run.
-fn answer(state: State, buckets: u32) -> RunAnswer
-    requires { ⌜ state .tally .insertions + state .tally .decreases + state .tally .shifts < 4294967296 ⌝ }
-    ensures { λ r. ⌜ numbersOf r ≡ acceptedNumbers (state .reached) buckets (state .tally .decreases)
-        (state .tally .insertions + state .tally .decreases + state .tally .shifts) (state .tally .looks) ⌝ }
+// The counts of a run, from its tallies.
+fn counts(tally: Tally) -> Counts
+    requires { ⌜ tally .insertions + tally .decreases + tally .shifts < 4294967296 ⌝ }
+    ensures { λ r. ⌜ r ≡ countsTold tally ⌝ }
 {
-    let tally = state.tally;
-    model::accepted_run(
-        state.reached,
-        buckets,
-        tally.decreases,
-        tally.insertions + tally.decreases + tally.shifts,
-        tally.looks,
-    )
+    Counts {
+        decreases: tally.decreases,
+        placements: tally.insertions + tally.decreases + tally.shifts,
+        looks: tally.looks,
+    }
 }
 
 // The core on exactly the words that a run fills of each list; the work words are cleared behind it.
@@ -74,11 +71,15 @@ fn run_on(
     state
 }
 
-// The one-level run of a map and lists that have passed the checks.
-fn one_level_steps(
+// The run of inputs and lists that have passed the checks, in a heap of so many buckets of so many segments.
+fn steps(
     n: u32,
     ceiling: u32,
     source: Node,
+    buckets: u32,
+    segments: u32,
+    needed: usize,
+    sizes: &[u32],
     starts: &[u32],
     heads: &[u32],
     costs: &[u32],
@@ -87,21 +88,23 @@ fn one_level_steps(
     roster: &mut [u32],
     work: &mut [u32],
 ) -> RunAnswer
-    requires { ⌜ Ready (mapOf n (now starts) (now heads) (now costs)) ceiling (source .0) (oneLevelWork n) (lent (now distances) (now parents) (now roster) (now work)) ⌝ }
-    ensures { λ r. ⌜ OneLevelRan Passed n ceiling (source .0) (now (starts .entry)) (now (heads .entry)) (now (costs .entry)) r
+    requires { ⌜ SomeBuilt (inputs n ceiling (source .0) (now starts) (now heads) (now costs)) buckets segments (now sizes) needed
+        (lent (now distances) (now parents) (now roster) (now work)) ⌝ }
+    ensures { λ r. ⌜ ((L : Levels)
+        → Built L (inputs n ceiling (source .0) (now (starts .entry)) (now (heads .entry)) (now (costs .entry))) buckets segments (now (sizes .entry)) needed
         (lent (now (distances .entry)) (now (parents .entry)) (now (roster .entry)) (now (work .entry)))
-        (lent (now (distances .exit)) (now (parents .exit)) (now (roster .exit)) (now (work .exit))) ⌝ }
+        → Ran L (inputs n ceiling (source .0) (now (starts .entry)) (now (heads .entry)) (now (costs .entry))) Passed r
+        (lent (now (distances .entry)) (now (parents .entry)) (now (roster .entry)) (now (work .entry)))
+        (lent (now (distances .exit)) (now (parents .exit)) (now (roster .exit)) (now (work .exit)))) ⌝ }
 {
-    let buckets = sizes::one_level_buckets(ceiling);
-    let sizes = sizes::one_level_sizes();
+    let slots = (buckets - 1) * segments + 1;
     let layout = Layout {
         nodes: n as usize,
         buckets: buckets as usize,
-        segments: 1,
-        slots: buckets as usize,
+        segments: segments as usize,
+        slots: slots as usize,
     };
     let top = n * ceiling + 1;
-    let needed = 4 * n as usize + 64;
     let state = run_on(
         starts,
         heads,
@@ -110,13 +113,13 @@ fn one_level_steps(
         parents,
         roster,
         work,
-        &sizes,
+        sizes,
         layout,
         top,
         source,
         needed,
     );
-    answer(state, buckets)
+    model::accepted_run(state.reached, buckets, counts(state.tally))
 }
 
 // The one-level run.
@@ -132,7 +135,7 @@ pub fn one_level(
     roster: &mut [u32],
     work: &mut [u32],
 ) -> RunAnswer
-    ensures { λ r. ⌜ OneLevelPromised n ceiling (source .0) (now (starts .entry)) (now (heads .entry)) (now (costs .entry)) r
+    ensures { λ r. ⌜ OneLevelPromised (inputs n ceiling (source .0) (now (starts .entry)) (now (heads .entry)) (now (costs .entry))) r
         (lent (now (distances .entry)) (now (parents .entry)) (now (roster .entry)) (now (work .entry)))
         (lent (now (distances .exit)) (now (parents .exit)) (now (roster .exit)) (now (work .exit))) ⌝ }
 {
@@ -151,10 +154,17 @@ pub fn one_level(
     if let Check::Fault { number, place } = check {
         return model::refused_run(number, place);
     }
-    one_level_steps(
+    let buckets = sizes::one_level_buckets(ceiling);
+    let sizes = sizes::one_level_sizes();
+    let needed = 4 * n as usize + 64;
+    steps(
         n,
         ceiling,
         source,
+        buckets,
+        1,
+        needed,
+        &sizes,
         starts,
         heads,
         costs,
@@ -163,54 +173,6 @@ pub fn one_level(
         roster,
         work,
     )
-}
-
-// The two-level run of a map and lists that have passed the checks.
-fn two_level_steps(
-    n: u32,
-    ceiling: u32,
-    source: Node,
-    segments: u32,
-    starts: &[u32],
-    heads: &[u32],
-    costs: &[u32],
-    distances: &mut [u32],
-    parents: &mut [u32],
-    roster: &mut [u32],
-    work: &mut [u32],
-) -> RunAnswer
-    requires { ⌜ Ready (mapOf n (now starts) (now heads) (now costs)) ceiling (source .0) (twoLevelWork n) (lent (now distances) (now parents) (now roster) (now work)) ⌝ }
-    requires { ⌜ (2 ≤ segments) × (segments ≤ 64) ⌝ }
-    ensures { λ r. ⌜ TwoLevelRan Passed n ceiling (source .0) segments (now (starts .entry)) (now (heads .entry)) (now (costs .entry)) r
-        (lent (now (distances .entry)) (now (parents .entry)) (now (roster .entry)) (now (work .entry)))
-        (lent (now (distances .exit)) (now (parents .exit)) (now (roster .exit)) (now (work .exit))) ⌝ }
-{
-    let buckets = sizes::two_level_buckets(ceiling, segments);
-    let sizes = sizes::two_level_sizes(segments);
-    let slots = (buckets - 1) * segments + 1;
-    let layout = Layout {
-        nodes: n as usize,
-        buckets: buckets as usize,
-        segments: segments as usize,
-        slots: slots as usize,
-    };
-    let top = n * ceiling + 1;
-    let needed = 4 * n as usize + 384;
-    let state = run_on(
-        starts,
-        heads,
-        costs,
-        distances,
-        parents,
-        roster,
-        work,
-        &sizes,
-        layout,
-        top,
-        source,
-        needed,
-    );
-    answer(state, buckets)
 }
 
 // The two-level run.
@@ -227,7 +189,7 @@ pub fn two_level(
     roster: &mut [u32],
     work: &mut [u32],
 ) -> RunAnswer
-    ensures { λ r. ⌜ TwoLevelPromised n ceiling (source .0) segments (now (starts .entry)) (now (heads .entry)) (now (costs .entry)) r
+    ensures { λ r. ⌜ TwoLevelPromised segments (inputs n ceiling (source .0) (now (starts .entry)) (now (heads .entry)) (now (costs .entry))) r
         (lent (now (distances .entry)) (now (parents .entry)) (now (roster .entry)) (now (work .entry)))
         (lent (now (distances .exit)) (now (parents .exit)) (now (roster .exit)) (now (work .exit))) ⌝ }
 {
@@ -247,11 +209,17 @@ pub fn two_level(
     if let Check::Fault { number, place } = check {
         return model::refused_run(number, place);
     }
-    two_level_steps(
+    let buckets = sizes::two_level_buckets(ceiling, segments);
+    let sizes = sizes::two_level_sizes(segments);
+    let needed = 4 * n as usize + 384;
+    steps(
         n,
         ceiling,
         source,
+        buckets,
         segments,
+        needed,
+        &sizes,
         starts,
         heads,
         costs,

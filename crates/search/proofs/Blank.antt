@@ -14,7 +14,7 @@ use Rattle.theory.specs.Heap.{bound, firstBounds, heapBlank, heapLabel, heapSta
 use Rattle.theory.proofs.Lists.{getD-replicate-same}
 use Rattle.theory.proofs.Sums.{sum-zero}
 use Rattle.theory.proofs.Search.Ends.{blank-mark}
-use Rattle.theory.proofs.Heap.Label.{Labelling}
+use Rattle.theory.specs.Invariants.{Labelling}
 use Rattle.theory.proofs.Heap.Run.{blank-inv, source-labelling}
 use Rattle.bounds.specs.Words.{firstWords}
 use Rattle.bounds.proofs.First.{first-words-length, first-words-before, first-words-after}
@@ -90,10 +90,7 @@ module _ {layout : Layout} {sizes : List ℕ} {X : Setting layout sizes} {words 
       roster = refl;
       current = sym (sum-zero n _ (λ v low. rw (blank-place v)));
       reached = refl;
-      insertions = refl;
-      decreases = refl;
-      shifts = refl;
-      looks = refl;
+      tally = refl;
     }
 
     pub start-labels : (before : List ℕ) → Labels X before (heapBlank N sh) (lists w d p before) blankState source 0

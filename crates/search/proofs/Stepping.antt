@@ -12,10 +12,9 @@ use Rattle.theory.specs.Shape.{Shape}
 use Rattle.theory.specs.Search.{Mark, unlabelled, labelled, scanned, Search, mark, blank, label}
 use Rattle.theory.specs.Heap.{Heap, nothing, picked, pick, heapRemove, heapRelaxAll, heapScan, heapFrom, heapLabel, heapBlank, heapStart, heap}
 use Rattle.theory.proofs.Sums.{sum-add, sum-same, sum-at}
-use Rattle.theory.proofs.Search.Nearest.{Labelled}
-use Rattle.theory.proofs.Search.Invariant.{AtRest, known, scans, labelled-node, scans-fewer}
+use Rattle.theory.specs.Invariants.{Labelled, AtRest, known, scans, seg}
+use Rattle.theory.proofs.Search.Invariant.{labelled-node, scans-fewer}
 use Rattle.theory.proofs.Search.Scanning.{scan-roster}
-use Rattle.theory.proofs.Heap.Shift.{seg}
 use Rattle.theory.proofs.Heap.Pick.{lowest-of-min, pick-lowest, pick-nothing}
 use Rattle.theory.proofs.Heap.Run.{remove-relaxing, scan-resting, scan-search, start-resting}
 use Rattle.theory.proofs.Maps.Arcs.{starts-mono}
@@ -23,6 +22,7 @@ use Rattle.state.specs.declared.Layout.{Layout}
 use Rattle.state.specs.declared.State.{State}
 use Rattle.state.specs.Stands.{Setting, Lists, Stands}
 use Rattle.state.proofs.Find.{sum-some}
+use Rattle.state.proofs.Tallies.{same-insertions}
 use Rattle.placing.specs.Placing.{lists}
 use Rattle.removal.specs.declared.Removed.{Removed}
 use Rattle.removal.specs.Removing.{Rests, SomeRests, Removal, Removes}
@@ -91,12 +91,12 @@ module _ {layout : Layout} {sizes starts heads costs : List ℕ} {X : Setting la
 
   step-rests : s .reached < s .tally .insertions → Rests X before h l s
   step-rests less =
-      let r = some-labelled (T .resting .rest) (omega (arith, T .stands .reached, T .stands .insertions)) in
+      let r = some-labelled (T .resting .rest) (omega (arith, T .stands .reached, same-insertions (T .stands .tally))) in
       record { stands = T .stands; resting = T .resting; long = T .long; node = r .0; labelled = r .1 }
 
   step-over : s .tally .insertions ≤ s .reached → Stands layout sh before (heap N sh) l s
   step-over over =
-      let no-one = none-labelled (T .resting .rest) (omega (arith, T .stands .reached, T .stands .insertions)) in
+      let no-one = none-labelled (T .resting .rest) (omega (arith, T .stands .reached, same-insertions (T .stands .tally))) in
       let e = idle-heap N sh (T .left) h (pick-nothing (X .lawful) (T .resting .rest) (T .resting .inv) .1 no-one) in
       rw (sym e ∙ T .leads) at (T .stands)
 

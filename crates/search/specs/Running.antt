@@ -6,7 +6,7 @@ use lib.ListN.{length}
 use Rattle.theory.specs.Maps.{Map, mapOf, Valid}
 use Rattle.theory.specs.Network.{network}
 use Rattle.theory.specs.Heap.{Heap, heapFrom, heap}
-use Rattle.theory.proofs.Heap.Run.{Resting}
+use Rattle.theory.specs.Invariants.{Resting}
 use Rattle.state.specs.declared.Layout.{Layout}
 use Rattle.state.specs.declared.State.{State}
 use Rattle.state.specs.Stands.{Setting, Lists, Stands}

@@ -5,7 +5,7 @@ use lib.ListN.{length}
 use Rattle.theory.specs.Maps.{Map}
 use Rattle.theory.specs.Network.{Link, linksFrom, arcLinks}
 use Rattle.theory.specs.Heap.{Heap}
-use Rattle.theory.proofs.Heap.Run.{Relaxing}
+use Rattle.theory.specs.Invariants.{Relaxing}
 use Rattle.state.specs.declared.Layout.{Layout}
 use Rattle.state.specs.declared.State.{State}
 use Rattle.state.specs.Stands.{Setting, Lists, Stands}

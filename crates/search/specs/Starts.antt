@@ -3,7 +3,7 @@ use Prim.Native.Nat.{ℕ}
 use mathlib.Core.Path.{_≡_}
 use mathlib.Core.List.{List}
 use lib.ListN.{length}
-use Rattle.buckets.specs.Words.{Fits}
+use Rattle.buckets.specs.Words.{WordsFit}
 use Rattle.state.specs.declared.Layout.{Layout}
 use Rattle.state.specs.Stands.{Setting}
 
@@ -11,7 +11,7 @@ use Rattle.state.specs.Stands.{Setting}
 pub record Starts {layout : Layout} {sizes : List ℕ} (X : Setting layout sizes) (words distances parents : List ℕ) (top source : ℕ) : Type 0 where
   pub source-is : X .network .source ≡ source
   pub top-is : X .shape .top ≡ top
-  pub fits : Fits (layout .nodes) (layout .slots) (layout .segments) (length words)
+  pub fits : WordsFit (layout .nodes) (layout .slots) (layout .segments) (length words)
   pub distances-long : length distances ≡ layout .nodes
   pub parents-long : length parents ≡ layout .nodes
 

@@ -27,8 +27,10 @@ use Rattle.state.specs.Places.{isWord}
 use Rattle.state.specs.Slots.{slotOf, slotWord, keyWord, Enters}
 use Rattle.state.proofs.Slots.{same-word, same-enters}
 use Rattle.state.proofs.Find.{isWord-low, isWord-same, isWord-other}
+use Rattle.state.specs.Tallies.{shifts, afterEvent}
+use Rattle.state.proofs.Tallies.{same-tally, same-insertions, same-decreases, same-shifts, same-looks}
 use Rattle.placing.specs.Placing.{Formed}
-use Rattle.shifting.specs.Moving.{shiftsOf, ShiftedFrom, movedWord, Settles, Settled, inSlot, atCurrent, Distributes, Distributed}
+use Rattle.shifting.specs.Moving.{shiftsOf, movedWord, Settles, Settled, inSlot, atCurrent, Distributes, Distributed}
 
 -- The key of node v can be placed (document 01, "One-level heap").
 pub record Moves (layout : Layout) (sizes words distances : List ℕ) (s : State) (bucket v : ℕ) : Type 0 where
@@ -46,7 +48,7 @@ pub record Moved (layout : Layout) (sizes words words′ distances : List ℕ) (
   pub front : s′ .front ≡ s .front
   pub current : s′ .current ≡ s .current + isWord 1 (movedWord layout sizes words distances (s .front) bucket v)
   pub reached : s′ .reached ≡ s .reached
-  pub tally : ShiftedFrom (s .tally) (s′ .tally) bucket
+  pub tally : s′ .tally ≡ afterEvent (shifts (shiftsOf bucket 1)) (s .tally)
 
 -- The bounds are as they were after a change of a place word.
 pub bounds-same : {n slots K B : ℕ} {w w′ : List ℕ} {v x : ℕ} → B ≤ 22 → Placed n slots K w w′ v x → (i : ℕ) → 1 ≤ i → i ≤ B → bound (boundsOf n w) i ≡ bound (boundsOf n w′) i
@@ -97,10 +99,7 @@ pub record Distributing (layout : Layout) (sizes words₀ distances : List ℕ) 
   pub front : s .front ≡ s₀ .front
   pub current : s .current ≡ atCurrent layout words
   pub reached : s .reached ≡ s₀ .reached
-  pub insertions : s .tally .insertions ≡ s₀ .tally .insertions
-  pub decreases : s .tally .decreases ≡ s₀ .tally .decreases
-  pub shifts : s .tally .shifts + shiftsOf bucket (inSlot layout words slot) ≡ s₀ .tally .shifts + shiftsOf bucket (inSlot layout words₀ slot)
-  pub looks : s .tally .looks ≡ s₀ .tally .looks
+  pub tally : afterEvent (shifts (shiftsOf bucket (inSlot layout words slot))) (s .tally) ≡ afterEvent (shifts (shiftsOf bucket (inSlot layout words₀ slot))) (s₀ .tally)
 
 shifts-next : (bucket a c : ℕ) → shiftsOf bucket (suc a) + c ≡ shiftsOf bucket a + (c + shiftsOf bucket 1)
 shifts-next bucket a c = go (ltb 1 bucket)
@@ -135,10 +134,7 @@ module _ {layout : Layout} {sizes words₀ distances : List ℕ} {s₀ : State} 
     front = refl;
     current = Q .current;
     reached = refl;
-    insertions = refl;
-    decreases = refl;
-    shifts = refl;
-    looks = refl;
+    tally = refl;
   }
 
   module _ {words : List ℕ} {s : State} (P : Distributing layout sizes words₀ distances s₀ bucket slot words s) where
@@ -164,7 +160,7 @@ module _ {layout : Layout} {sizes words₀ distances : List ℕ} {s₀ : State} 
       long = Q .long;
       enters = rw (P .front) (same-enters (Q .enters v l (first-word v l e)) (boundsOf n words) bounds-from);
       current-few = omega (arith, P .current, count-low n 1 place, Q .frontier .few);
-      shifts-few = omega (arith, P .shifts, Q .shifts-few, shifts-low bucket (inSlot layout words₀ slot), count-low n from (λ w. getD (places n words₀) w 0));
+      shifts-few = omega (arith, same-shifts (P .tally), Q .shifts-few, shifts-low bucket (inSlot layout words₀ slot), count-low n from (λ w. getD (places n words₀) w 0));
     }
 
     module _ {v : ℕ} (l : v < n) (e : place v ≡ from) {words′ : List ℕ} {s′ : State} (M : Moved layout sizes words words′ distances s s′ bucket v) where
@@ -200,10 +196,9 @@ module _ {layout : Layout} {sizes words₀ distances : List ℕ} {s₀ : State} 
           front = M .front ∙ P .front;
           current = omega (arith, M .current, P .current, count 1, isWord-other 1 from (omega arith), ap (isWord 1) (placed-here (P .frontier) (M .placed) l));
           reached = M .reached ∙ P .reached;
-          insertions = M .tally .insertions ∙ P .insertions;
-          decreases = M .tally .decreases ∙ P .decreases;
-          shifts = omega (arith, P .shifts, M .tally .shifts, shifts-next bucket (inSlot layout words′ slot) (s .tally .shifts), ap (shiftsOf bucket) one-fewer);
-          looks = M .tally .looks ∙ P .looks;
+          tally = same-tally (same-insertions (M .tally) ∙ same-insertions (P .tally)) (same-decreases (M .tally) ∙ same-decreases (P .tally))
+              (omega (arith, same-shifts (P .tally), same-shifts (M .tally), shifts-next bucket (inSlot layout words′ slot) (s .tally .shifts), ap (shiftsOf bucket) one-fewer))
+              (same-looks (M .tally) ∙ same-looks (P .tally));
         },
         omega (arith, one-fewer),
       )
@@ -227,10 +222,8 @@ module _ {layout : Layout} {sizes words₀ distances : List ℕ} {s₀ : State} 
       front = P .front;
       current = P .current;
       reached = P .reached;
-      insertions = P .insertions;
-      decreases = P .decreases;
-      shifts = omega (arith, P .shifts, ap (shiftsOf bucket) zero-left, shifts-low bucket 0);
-      looks = P .looks;
+      tally = same-tally (same-insertions (P .tally)) (same-decreases (P .tally))
+          (omega (arith, same-shifts (P .tally), ap (shiftsOf bucket) zero-left, shifts-low bucket 0)) (same-looks (P .tally));
     }
       where
         zero-left : inSlot layout words slot ≡ 0

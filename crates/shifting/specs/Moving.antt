@@ -8,25 +8,18 @@ use lib.Dec.{ltb}
 use lib.ListN.{length, getD}
 use Rattle.theory.specs.Sums.{sumBelow}
 use Rattle.bounds.specs.Words.{boundsOf}
-use Rattle.buckets.specs.Words.{places, placeWord, bucketOf}
+use Rattle.buckets.specs.Words.{places, placeWord, slotBucket}
 use Rattle.frontier.specs.Frontier.{Frontier}
 use Rattle.state.specs.declared.Layout.{Layout}
 use Rattle.state.specs.declared.State.{State}
-use Rattle.state.specs.declared.Tally.{Tally}
 use Rattle.state.specs.Places.{isWord}
+use Rattle.state.specs.Tallies.{shifts, afterEvent}
 use Rattle.state.specs.Slots.{slotOf, slotWord, keyWord, SlotFits, Enters}
 use Rattle.placing.specs.Placing.{Formed, Entering, Entered}
 
 -- A shift is counted from a bucket above 1 (document 01, "One-level heap": if j = 1 the node is scanned, and none is shifted).
 abbrev pub shiftsOf : (bucket moved : ℕ) → ℕ
 shiftsOf bucket moved = cond (ltb 1 bucket) moved 0
-
--- The tally with one move from a bucket counted (document 01, "The tallies").
-pub record ShiftedFrom (t t′ : Tally) (bucket : ℕ) : Type 0 where
-  pub insertions : t′ .insertions ≡ t .insertions
-  pub decreases : t′ .decreases ≡ t .decreases
-  pub shifts : t′ .shifts ≡ t .shifts + shiftsOf bucket 1
-  pub looks : t′ .looks ≡ t .looks
 
 -- The word that node v is given: that of its key, searched for from the bucket it leaves (document 01, "One-level heap").
 abbrev pub movedWord : (layout : Layout) → (sizes words distances : List ℕ) → (front bucket v : ℕ) → ℕ
@@ -47,7 +40,7 @@ pub record Settled (layout : Layout) (sizes words words′ distances : List ℕ)
   pub front : s′ .front ≡ s .front
   pub current : s′ .current ≡ s .current + counted
   pub reached : s′ .reached ≡ s .reached
-  pub tally : ShiftedFrom (s .tally) (s′ .tally) bucket
+  pub tally : s′ .tally ≡ afterEvent (shifts (shiftsOf bucket 1)) (s .tally)
 
 -- The nodes that have the word of a slot (document 01, "Two-level heap").
 abbrev pub inSlot : (layout : Layout) → (words : List ℕ) → (slot : ℕ) → ℕ
@@ -62,7 +55,7 @@ pub record Distributes (layout : Layout) (sizes words distances : List ℕ) (s :
   pub formed : Formed layout sizes
   pub frontier : Frontier (layout .nodes) (layout .slots) (layout .segments) words
   pub below : slot < layout .slots
-  pub within : bucket ≡ bucketOf (layout .segments) slot
+  pub within : bucket ≡ slotBucket (layout .segments) slot
   pub long : layout .nodes ≤ length distances
   pub enters : (w : ℕ) → w < layout .nodes → getD (places (layout .nodes) words) w 0 ≡ placeWord (layout .segments) slot
       → Enters (layout .buckets) (layout .segments) sizes (boundsOf (layout .nodes) words) (s .front) (getD distances w 0) bucket
@@ -83,7 +76,4 @@ pub record Distributed (layout : Layout) (sizes words words′ distances : List 
   pub front : s′ .front ≡ s .front
   pub current : s′ .current ≡ atCurrent layout words′
   pub reached : s′ .reached ≡ s .reached
-  pub insertions : s′ .tally .insertions ≡ s .tally .insertions
-  pub decreases : s′ .tally .decreases ≡ s .tally .decreases
-  pub shifts : s′ .tally .shifts ≡ s .tally .shifts + shiftsOf bucket (inSlot layout words slot)
-  pub looks : s′ .tally .looks ≡ s .tally .looks
+  pub tally : s′ .tally ≡ afterEvent (shifts (shiftsOf bucket (inSlot layout words slot))) (s .tally)

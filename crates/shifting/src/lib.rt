@@ -7,8 +7,9 @@ use state::State;
 use state::Tally;
 ghost use mathlib.Core.Path.{_≡_};
 ghost use Prim.Native.Nat.{_<_};
+ghost use Rattle.state.specs.Tallies.{Event, afterEvent};
 ghost use Rattle.shifting.specs.Renewing.{Renews, renewed};
-ghost use Rattle.shifting.specs.Moving.{Settles, Settled, ShiftedFrom, Distributes, Distributed};
+ghost use Rattle.shifting.specs.Moving.{shiftsOf, Settles, Settled, Distributes, Distributed};
 
 // The bounds below the bucket that is used are set anew. Below bucket 1 there are none.
 pub fn renew_bounds(
@@ -38,7 +39,7 @@ pub fn renew_bounds(
 // From a bucket above 1 a move is a shift.
 fn shifted_from(tally: Tally, bucket: usize) -> Tally
     requires { ⌜ tally .shifts < 4294967295 ⌝ }
-    ensures { λ r. ⌜ ShiftedFrom tally r bucket ⌝ }
+    ensures { λ r. ⌜ r ≡ afterEvent (Event.shifts (shiftsOf bucket 1)) tally ⌝ }
 {
     if 1 < bucket {
         return tally.shifted();

@@ -16,10 +16,10 @@ use Rattle.theory.specs.Heap.{Heap, bound, bucketOf, keyOf, segmentOf}
 use Rattle.theory.proofs.Cases.{split, same?, differ, mark-cases}
 use Rattle.theory.proofs.Sums.{sum-at}
 use Rattle.theory.proofs.Lists.{getD-inside}
-use Rattle.theory.proofs.Search.Nearest.{Labelled, Least}
-use Rattle.theory.proofs.Search.Invariant.{AtRest, labelled-node}
-use Rattle.theory.proofs.Heap.Buckets.{Fits, fits-order}
-use Rattle.theory.proofs.Heap.Invariant.{HeapInv, nearest-first}
+use Rattle.theory.specs.Invariants.{Labelled, Least, AtRest, Fits, HeapInv}
+use Rattle.theory.proofs.Search.Invariant.{labelled-node}
+use Rattle.theory.proofs.Heap.Buckets.{fits-order}
+use Rattle.theory.proofs.Heap.Invariant.{nearest-first}
 use Rattle.buckets.specs.Words.{placeBucket}
 use Rattle.buckets.specs.Words
 use Rattle.buckets.specs.Answer.{InSlot, InBucket}
@@ -149,7 +149,7 @@ module _ {layout : Layout} {sizes : List ℕ} (X : Setting layout sizes) {before
     module _ {j k v : ℕ} (fit : SlotFits (layout .buckets) K j k)
         (lower : (b w : ℕ) → 1 ≤ b → b < j → InBucket n b (l .words) w → ⊥)
         (earlier : (m w : ℕ) → 1 ≤ m → m < k → InSlot n K (slotOf K j m) (l .words) w → ⊥)
-        (found : Answer.Least n K (slotOf K j k) (l .words) (l .distances) v) where
+        (found : Answer.LeastIn n K (slotOf K j k) (l .words) (l .distances) v) where
       v-is : Labelled (h .search) v × (keyOf h v ≢ s .front) × (bucketOf h v ≡ j) × (segmentOf sh h v ≡ k)
       v-is = slot-word v j k fit (found .in-slot .0) (found .in-slot .1)
 

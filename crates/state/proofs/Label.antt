@@ -16,9 +16,8 @@ use Rattle.theory.specs.Search.{Mark, unlabelled, labelled, scanned, mark, belo
 use Rattle.theory.specs.Heap.{Heap, bound, bucketOf, keyOf, bucketFrom, searchStart, bucketFor, heapLabel}
 use Rattle.theory.proofs.Cases.{same?, differ}
 use Rattle.theory.proofs.Sums.{sum-change}
-use Rattle.theory.proofs.Heap.Buckets.{Fits}
-use Rattle.theory.proofs.Heap.Invariant.{HeapInv}
-use Rattle.theory.proofs.Heap.Label.{Labelling, put}
+use Rattle.theory.specs.Invariants.{Fits, HeapInv, Labelling}
+use Rattle.theory.proofs.Heap.Label.{put}
 use Rattle.bounds.specs.Words.{boundsOf, segmentNumber}
 use Rattle.bounds.proofs.Bucket.{bucketFrom-same}
 use Rattle.buckets.specs.Words
@@ -29,6 +28,7 @@ use Rattle.state.specs.declared.State.{State}
 use Rattle.state.specs.Places.{wordOf, placeOf, isWord}
 use Rattle.state.specs.Slots.{slotWord, keyWord, Enters}
 use Rattle.state.specs.Stands.{Setting, Lists, Stands}
+use Rattle.state.specs.Tallies.{afterLabel}
 use Rattle.state.proofs.Places.Label.{place-is, label-here, label-other}
 use Rattle.state.proofs.Slots.{word-far, key-fits}
 
@@ -42,10 +42,7 @@ pub record Counting (m : Mark) (word : ℕ) (s s′ : State) : Type 0 where
   pub front : s′ .front ≡ s .front
   pub current : s′ .current ≡ s .current + isWord 1 word
   pub reached : s′ .reached ≡ s .reached
-  pub insertions : s′ .tally .insertions ≡ s .tally .insertions + inserted m
-  pub decreases : s′ .tally .decreases ≡ s .tally .decreases + decreased m
-  pub shifts : s′ .tally .shifts ≡ s .tally .shifts
-  pub looks : s′ .tally .looks ≡ s .tally .looks
+  pub tally : s′ .tally ≡ afterLabel m (s .tally)
 
 module _ {layout : Layout} {sizes : List ℕ} (X : Setting layout sizes) {before : List ℕ} {h : Heap} {l : Lists} {s : State} (T : Stands layout (X .shape) before h l s)
     (inv : HeapInv (X .network) (X .shape) (s .front) h) {v x : ℕ} (lab : Labelling (X .network) (X .shape) h v x) (late : s .front ≤ x)
@@ -152,8 +149,5 @@ module _ {layout : Layout} {sizes : List ℕ} (X : Setting layout sizes) {before
         ap (isWord 1) new-here,
       );
       reached = unfold heapLabel label in (c .reached ∙ T .reached);
-      insertions = unfold heapLabel label in (c .insertions ∙ ap (λ (k : ℕ). k + inserted (mark (h .search) v)) (T .insertions));
-      decreases = unfold heapLabel label in (c .decreases ∙ ap (λ (k : ℕ). k + decreased (mark (h .search) v)) (T .decreases));
-      shifts = unfold heapLabel in (c .shifts ∙ T .shifts);
-      looks = unfold heapLabel in (c .looks ∙ T .looks);
+      tally = unfold heapLabel label in (c .tally ∙ ap (afterLabel (mark (h .search) v)) (T .tally));
     }

@@ -16,12 +16,10 @@ use Rattle.theory.specs.Search.{Mark, unlabelled, labelled, scanned, mark, remo
 use Rattle.theory.specs.Heap.{Heap, bound, bucketOf, keyOf, bucketFrom, segmentOf, boundsAfter, heapRemove}
 use Rattle.theory.proofs.Cases.{split, same?, labelled≢scanned, labelled≢unlabelled, mark-cases}
 use Rattle.theory.proofs.Sums.{sum-change}
-use Rattle.theory.proofs.Search.Nearest.{Labelled, Least}
-use Rattle.theory.proofs.Search.Invariant.{AtRest, scans-fewer}
+use Rattle.theory.specs.Invariants.{Labelled, Least, AtRest, Fits, seg, HeapInv}
+use Rattle.theory.proofs.Search.Invariant.{scans-fewer}
 use Rattle.theory.proofs.Heap.Bounds.{after-same}
-use Rattle.theory.proofs.Heap.Buckets.{Fits}
-use Rattle.theory.proofs.Heap.Shift.{seg, bounds-after}
-use Rattle.theory.proofs.Heap.Invariant.{HeapInv}
+use Rattle.theory.proofs.Heap.Shift.{bounds-after}
 use Rattle.theory.proofs.Heap.Remove.{falls}
 use Rattle.bounds.specs.Words.{boundsOf, segmentNumber, segmentLooks}
 use Rattle.bounds.proofs.Bucket.{bucketFrom-same}
@@ -35,6 +33,8 @@ use Rattle.state.specs.declared.State.{State}
 use Rattle.state.specs.Places.{placeOf, isWord}
 use Rattle.state.specs.Slots.{slotOf, slotWord, keyWord, SlotFits, Enters}
 use Rattle.state.specs.Stands.{Setting, Lists, Stands}
+use Rattle.state.specs.Tallies.{afterRemoval}
+use Rattle.state.proofs.Tallies.{same-tally, same-insertions, same-decreases, same-shifts, same-looks}
 use Rattle.state.proofs.Places.Label.{place-is}
 use Rattle.state.proofs.Places.Remove.{removed-scanned, removed-unlabelled, removed-poured, removed-other, removed-current, first-equal, shifts-first, shifts-sum, poured}
 use Rattle.state.proofs.Slots.{word-far, same-slot, key-fits}
@@ -55,10 +55,7 @@ roster-next hr before v h =
 pub record Removing (d shifted looked : ℕ) (s s′ : State) : Type 0 where
   pub front : s′ .front ≡ d
   pub reached : s′ .reached ≡ s .reached + 1
-  pub insertions : s′ .tally .insertions ≡ s .tally .insertions
-  pub decreases : s′ .tally .decreases ≡ s .tally .decreases
-  pub shifts : s′ .tally .shifts ≡ s .tally .shifts + shifted
-  pub looks : s′ .tally .looks ≡ s .tally .looks + looked
+  pub tally : s′ .tally ≡ afterRemoval shifted looked (s .tally)
 
 module _ {layout : Layout} {sizes : List ℕ} (X : Setting layout sizes) {before : List ℕ} {h : Heap} {l : Lists} {s : State} (T : Stands layout (X .shape) before h l s)
     (rest : AtRest (X .network) (X .ceiling) (s .front) (h .search)) (inv : HeapInv (X .network) (X .shape) (s .front) h) (long : layout .nodes ≤ length before) where
@@ -122,7 +119,7 @@ module _ {layout : Layout} {sizes : List ℕ} (X : Setting layout sizes) {before
         let u = bound-word T 1 (omega arith) (omega (arith, X .agrees .sized .two)) in
         let a : segmentNumber B K sizes 1 (bound (h .bounds) 1) d ≡ k = sym (X .agrees .segment 1 (bound (h .bounds) 1) d) in
         let b : segmentLooks K k ≡ sh .looks k = sym (X .agrees .looks k) in
-        rw (u, a, b, T .looks)
+        rw (u, a, b, same-looks (T .tally))
 
     pub current-stands : {s′ : State} → Removing d 0 (1 + segmentLooks K (segmentNumber B K sizes 1 (bound (boundsOf n (l .words)) 1) d)) s s′ → s′ .current + 1 ≡ s .current
         → Stands layout sh before (heapRemove sh 1 k d v h)
@@ -146,17 +143,15 @@ module _ {layout : Layout} {sizes : List ℕ} (X : Setting layout sizes) {before
         ap (isWord 1) (F .was),
       );
       reached = omega (arith, c .reached, T .reached, reached-after 1 k d v);
-      insertions = unfold heapRemove remove in (c .insertions ∙ T .insertions);
-      decreases = unfold heapRemove remove in (c .decreases ∙ T .decreases);
-      shifts = omega (arith, c .shifts, T .shifts, shifts-first (X .lawful) rest inv fit min (slotWord K) refl);
-      looks = c .looks ∙ looks-is;
+      tally = c .tally ∙ same-tally (unfold heapRemove remove in same-insertions (T .tally)) (unfold heapRemove remove in same-decreases (T .tally))
+          (omega (arith, same-shifts (T .tally), shifts-first (X .lawful) rest inv fit min (slotWord K) refl)) looks-is;
     }
 
   -- The least node of the lowest slot, where no node is at the current key.
   module _ (none-current : (v : ℕ) → v < n → place v ≢ 1) {j k v : ℕ} (slot : SlotFits B K j k)
       (lower : (b w : ℕ) → 1 ≤ b → b < j → InBucket n b (l .words) w → ⊥)
       (earlier : (m w : ℕ) → 1 ≤ m → m < k → InSlot n K (slotOf K j m) (l .words) w → ⊥)
-      (found : Answer.Least n K (slotOf K j k) (l .words) (l .distances) v) where
+      (found : Answer.LeastIn n K (slotOf K j k) (l .words) (l .distances) v) where
     abbrev key : ℕ
     key = keyOf h v
 
@@ -179,7 +174,7 @@ module _ {layout : Layout} {sizes : List ℕ} (X : Setting layout sizes) {before
     unfolding heapRemove
     listed-looks looked e =
         let b : segmentLooks K k ≡ sh .looks (seg sh (h .bounds) j key) = sym (X .agrees .looks k) ∙ ap (sh .looks) listed-seg in
-        rw (e, b, T .looks)
+        rw (e, b, same-looks (T .tally))
 
     in-segment : (w : ℕ) → w < n → place w ≡ slotWord K j k → Labelled (h .search) w × (bucketOf h w ≡ j) × (segmentOf sh h w ≡ seg sh (h .bounds) j key)
     in-segment w low e = let r = slot-word X T rest inv w j k slot low e in (r .0, r .2, r .3 ∙ listed-seg)
@@ -310,8 +305,6 @@ module _ {layout : Layout} {sizes : List ℕ} (X : Setting layout sizes) {before
         roster = roster-after j (seg sh (h .bounds) j key) key v (listed-min .member);
         current = count;
         reached = omega (arith, c .reached, T .reached, reached-after j (seg sh (h .bounds) j key) key v);
-        insertions = unfold heapRemove remove in (c .insertions ∙ T .insertions);
-        decreases = unfold heapRemove remove in (c .decreases ∙ T .decreases);
-        shifts = omega (arith, c .shifts, T .shifts);
-        looks = c .looks ∙ listed-looks looked looks-are;
+        tally = c .tally ∙ same-tally (unfold heapRemove remove in same-insertions (T .tally)) (unfold heapRemove remove in same-decreases (T .tally))
+            (omega (arith, same-shifts (T .tally))) (listed-looks looked looks-are);
       }

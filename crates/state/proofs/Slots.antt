@@ -12,20 +12,20 @@ use Rattle.theory.specs.Network.{Network}
 use Rattle.theory.specs.Shape.{Shape}
 use Rattle.theory.specs.Heap.{bound, bucketFrom}
 use Rattle.theory.proofs.Cases.{split, same?}
-use Rattle.theory.proofs.Heap.Laws.{Lawful}
-use Rattle.theory.proofs.Heap.Bounds.{Bounds}
-use Rattle.theory.proofs.Heap.Buckets.{Fits, late-range}
+use Rattle.theory.specs.Lawful.{Lawful}
+use Rattle.theory.specs.Invariants.{Bounds, Fits}
+use Rattle.theory.proofs.Heap.Buckets.{late-range}
 use Rattle.bounds.specs.Words.{segmented, segmentNumber, Agrees}
 use Rattle.bounds.proofs.Segments.{segmented-below, number-whole, number-most}
 use Rattle.bounds.proofs.Bucket.{bucketFrom-same}
-use Rattle.buckets.specs.Words.{bucketOf, placeWord}
+use Rattle.buckets.specs.Words.{slotBucket, placeWord}
 use Rattle.state.specs.Slots.{slotOf, slotWord, keyWord, SlotFits, Enters}
 
 pub word-far : (K b k : ℕ) → 512 ≤ slotWord K b k
 word-far K b k = omega arith
 
 module _ {B K b k : ℕ} (f : SlotFits B K b k) where
-  pub slot-bucket : bucketOf K (slotOf K b k) ≡ b
+  pub slot-bucket : slotBucket K (slotOf K b k) ≡ b
   slot-bucket =
       let e : ((b - 1) * K + (k - 1)) / K ≡ b - 1 = digits-div (b - 1) (omega (arith, f .low, f .high)) in
       omega (arith, f .first)

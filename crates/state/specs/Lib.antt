@@ -2,3 +2,4 @@
 pub mod Places
 pub mod Slots
 pub mod Stands
+pub mod Tallies

@@ -7,7 +7,7 @@ use Rattle.theory.specs.Sums.{sumBelow}
 use Rattle.theory.specs.Network.{Network, Admissible}
 use Rattle.theory.specs.Shape.{Shape}
 use Rattle.theory.specs.Heap.{Heap, bound}
-use Rattle.theory.proofs.Heap.Laws.{Lawful}
+use Rattle.theory.specs.Lawful.{Lawful}
 use Rattle.bounds.specs.Words.{Agrees}
 use Rattle.buckets.specs.Words
 use Rattle.frontier.specs.Frontier.{Frontier}
@@ -15,6 +15,7 @@ use Rattle.state.specs.declared.Layout.{Layout}
 use Rattle.state.specs.declared.State.{State}
 use Rattle.state.specs.Places.{placeOf, isWord}
 use Rattle.state.specs.Slots.{slotWord}
+use Rattle.state.specs.Tallies.{countsOf}
 
 -- A network and a shape that the numbers of a run stand for (document 01, "What the planner holds and leaves out").
 pub record Setting (layout : Layout) (sizes : List ℕ) : Type 0 where
@@ -48,7 +49,4 @@ pub record Stands (layout : Layout) (shape : Shape) (before : List ℕ) (h : Hea
   pub roster : l .roster ≡ h .search .roster ++ drop (length (h .search .roster)) before
   pub current : s .current ≡ sumBelow (layout .nodes) (λ v. isWord 1 (getD (Words.places (layout .nodes) (l .words)) v 0))
   pub reached : s .reached ≡ length (h .search .roster)
-  pub insertions : s .tally .insertions ≡ h .search .insertions
-  pub decreases : s .tally .decreases ≡ h .search .decreases
-  pub shifts : s .tally .shifts ≡ h .shifts
-  pub looks : s .tally .looks ≡ h .looks
+  pub tally : s .tally ≡ countsOf h

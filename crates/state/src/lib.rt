@@ -1,6 +1,7 @@
 // The numbers of a run: how its work words are laid out, its tallies, and what changes from step to step.
 ghost use mathlib.Core.Path.{_≡_};
 ghost use Prim.Native.Nat.{_<_, _+_};
+ghost use Rattle.state.specs.Tallies.{Event, insertion, decrease, afterEvent};
 
 mod counts;
 
@@ -37,7 +38,7 @@ pub struct State {
 impl Tally {
     pub fn inserted(self) -> Tally
         requires { ⌜ self .insertions < 4294967295 ⌝ }
-        ensures { λ r. ⌜ (r .insertions ≡ self .insertions + 1) × (r .decreases ≡ self .decreases) × (r .shifts ≡ self .shifts) × (r .looks ≡ self .looks) ⌝ }
+        ensures { λ r. ⌜ r ≡ afterEvent insertion self ⌝ }
     {
         let mut tally = self;
         count_insertion(&mut tally);
@@ -46,7 +47,7 @@ impl Tally {
 
     pub fn decreased(self) -> Tally
         requires { ⌜ self .decreases < 4294967295 ⌝ }
-        ensures { λ r. ⌜ (r .insertions ≡ self .insertions) × (r .decreases ≡ self .decreases + 1) × (r .shifts ≡ self .shifts) × (r .looks ≡ self .looks) ⌝ }
+        ensures { λ r. ⌜ r ≡ afterEvent decrease self ⌝ }
     {
         let mut tally = self;
         count_decrease(&mut tally);
@@ -55,7 +56,7 @@ impl Tally {
 
     pub fn shifted(self) -> Tally
         requires { ⌜ self .shifts < 4294967295 ⌝ }
-        ensures { λ r. ⌜ (r .insertions ≡ self .insertions) × (r .decreases ≡ self .decreases) × (r .shifts ≡ self .shifts + 1) × (r .looks ≡ self .looks) ⌝ }
+        ensures { λ r. ⌜ r ≡ afterEvent (Event.shifts 1) self ⌝ }
     {
         let mut tally = self;
         count_shift(&mut tally);
@@ -64,7 +65,7 @@ impl Tally {
 
     pub fn looked(self, looks: u32) -> Tally
         requires { ⌜ self .looks + looks < 4294967296 ⌝ }
-        ensures { λ r. ⌜ (r .insertions ≡ self .insertions) × (r .decreases ≡ self .decreases) × (r .shifts ≡ self .shifts) × (r .looks ≡ self .looks + looks) ⌝ }
+        ensures { λ r. ⌜ r ≡ afterEvent (Event.looks looks) self ⌝ }
     {
         let mut tally = self;
         count_looks(&mut tally, looks);

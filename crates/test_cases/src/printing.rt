@@ -30,17 +30,15 @@ pub fn print_run(answer: RunAnswer) {
         RunAnswer::Accepted {
             reached,
             buckets,
-            decreases,
-            placements,
-            looks,
+            counts,
         } => print_answer(
             0,
             0,
             reached as u64,
             buckets as u64,
-            decreases as u64,
-            placements as u64,
-            looks as u64,
+            counts.decreases as u64,
+            counts.placements as u64,
+            counts.looks as u64,
         ),
         RunAnswer::Refused { number, place } => {
             print_answer(number as u64, place as u64, 0, 0, 0, 0, 0)

@@ -70,17 +70,15 @@ fn print_run(name: &[u8], heap: &[u8], arcs: u64, segments: u32, answer: RunAnsw
         RunAnswer::Accepted {
             reached,
             buckets,
-            decreases,
-            placements,
-            looks,
+            counts,
         } => print_shares(
             arcs,
             segments,
             reached,
             buckets,
-            decreases,
-            placements,
-            looks,
+            counts.decreases,
+            counts.placements,
+            counts.looks,
         ),
         RunAnswer::Refused { number, place } => {
             print_number(wide(number));

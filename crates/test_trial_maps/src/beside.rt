@@ -1,5 +1,6 @@
 // A run beside the references: its answer, and every word of the lists lent to it (document 01, "What the planner holds and leaves out").
 use crate::expected::Expected;
+use model::Counts;
 use model::Node;
 use model::RunAnswer;
 use test_generated::lists;
@@ -86,23 +87,16 @@ pub fn run(levels: u32, case: Case, lists: &Lists) -> Ran {
 }
 
 // How many numbers of a run are not those expected.
-fn differing_numbers(
-    reached: u32,
-    buckets: u32,
-    decreases: u32,
-    placements: u32,
-    looks: u32,
-    expected: Expected,
-) -> u64 {
+fn differing_numbers(reached: u32, buckets: u32, counts: Counts, expected: Expected) -> u64 {
     let size = words::sum(
         lists::differ(reached as u64, expected.reached),
         lists::differ(buckets as u64, expected.buckets),
     );
     let moves = words::sum(
-        lists::differ(decreases as u64, expected.decreases),
-        lists::differ(placements as u64, expected.placements),
+        lists::differ(counts.decreases as u64, expected.decreases),
+        lists::differ(counts.placements as u64, expected.placements),
     );
-    let examined = lists::differ(looks as u64, expected.looks);
+    let examined = lists::differ(counts.looks as u64, expected.looks);
     words::sum(size, words::sum(moves, examined))
 }
 
@@ -112,12 +106,10 @@ fn differing_answer(answer: RunAnswer, expected: Expected) -> u64 {
         RunAnswer::Accepted {
             reached,
             buckets,
-            decreases,
-            placements,
-            looks,
+            counts,
         } => words::sum(
             lists::differ(0, expected.number),
-            differing_numbers(reached, buckets, decreases, placements, looks, expected),
+            differing_numbers(reached, buckets, counts, expected),
         ),
         RunAnswer::Refused { number, place } => words::sum(
             lists::differ(number as u64, expected.number),

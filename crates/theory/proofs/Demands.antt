@@ -1,23 +1,22 @@
 -- Demands 2 and 3 of both runs, for every valid map; both runs end, and give equal distances, parents, scan order and decreases.
 use Prim.Native.Nat.{ℕ, _+_, _*_, _≤_}
 use native.Mathlib.Omega.{arith}
-use native.Mathlib.Nat.{add-zero}
 use mathlib.Core.Path.{_≡_, refl, sym, _∙_}
 use mathlib.Core.Logic.{_≢_}
 use mathlib.Core.List.{List}
 use lib.ListN.{length}
-use Rattle.theory.specs.Maps.{Map, arcs, Reached, Valid}
-use Rattle.theory.specs.Network.{Network, network, Path, Admissible}
-use Rattle.theory.specs.Search.{Search, search}
+use Rattle.theory.specs.Maps.{Map, Reached, Valid}
+use Rattle.theory.specs.Network.{Network, network, Path}
+use Rattle.theory.specs.Search.{search}
 use Rattle.theory.specs.Examined.{examined, FirstOf}
 use Rattle.theory.specs.Shape.{Shape, oneLevelBuckets, twoLevelBuckets, oneLevel, twoLevel}
-use Rattle.theory.specs.Heap.{Heap, nothing, pick, heap}
-use Rattle.theory.specs.Runs.{oneLevelRun, twoLevelRun}
-use Rattle.theory.specs.Demands.{CheapestPaths, CheapestRoutes, Roster, BoundedCounts, Demanded}
+use Rattle.theory.specs.Heap.{nothing, pick, heap}
+use Rattle.theory.specs.Runs.{Inputs, ValidInputs, Levels, one, two, Segmented, Allowed, heapBuckets, removalLooks, shapeOf, stepsOf}
+use Rattle.theory.specs.Demands.{CheapestPaths, CheapestRoutes, Roster, Demanded}
 use Rattle.theory.proofs.Search.Cheapest.{search-cheapest}
 use Rattle.theory.proofs.Search.Counts.{search-counted}
 use Rattle.theory.proofs.Search.First.{search-first}
-use Rattle.theory.proofs.Heap.Laws.{Lawful}
+use Rattle.theory.specs.Lawful.{Lawful}
 use Rattle.theory.proofs.Heap.Run.{heap-search, heap-ends, heap-looks, heap-placed}
 use Rattle.theory.proofs.Shapes.OneLevel.{lawful-one}
 use Rattle.theory.proofs.Shapes.TwoLevel.{lawful-two}
@@ -93,37 +92,68 @@ module _ {M : Map} {C source : ℕ} (valid : Valid M C source) where
     pub heap-over : pick sh (heap N sh) (N .nodes) ≡ nothing
     heap-over = heap-ends (map-admissible valid) law fits
 
-  -- The one-level run.
-  pub one-level-demanded : Demanded M source (oneLevelBuckets C) (oneLevelBuckets C) (oneLevelRun M C source)
-  unfolding oneLevelRun oneLevel
-  one-level-demanded = rw add-zero at (heap-demanded (lawful-one (M .nodes) C (valid .low-ceiling)) (unfold oneLevel in omega arith))
-
-  pub one-level-search : oneLevelRun M C source .search ≡ search N
-  unfolding oneLevelRun oneLevel
-  one-level-search = same (lawful-one (M .nodes) C (valid .low-ceiling)) (unfold oneLevel in omega arith)
-
-  pub one-level-over : pick (oneLevel (M .nodes) C) (oneLevelRun M C source) (M .nodes) ≡ nothing
-  unfolding oneLevelRun oneLevel network
-  one-level-over = heap-over (lawful-one (M .nodes) C (valid .low-ceiling)) (unfold oneLevel in omega arith)
-
-  -- The two-level run, for every K of document 01.
-  module _ {K : ℕ} (two : 2 ≤ K) where
-    pub two-level-demanded : Demanded M source (twoLevelBuckets C K) (twoLevelBuckets C K + K) (twoLevelRun M C source K)
-    unfolding twoLevelRun twoLevel
-    two-level-demanded = heap-demanded (lawful-two (M .nodes) C K two (valid .low-ceiling)) (unfold twoLevel in omega arith)
-
-    pub two-level-search : twoLevelRun M C source K .search ≡ search N
-    unfolding twoLevelRun twoLevel
-    two-level-search = same (lawful-two (M .nodes) C K two (valid .low-ceiling)) (unfold twoLevel in omega arith)
-
-    pub two-level-over : pick (twoLevel (M .nodes) C K) (twoLevelRun M C source K) (M .nodes) ≡ nothing
-    unfolding twoLevelRun twoLevel network
-    two-level-over = heap-over (lawful-two (M .nodes) C K two (valid .low-ceiling)) (unfold twoLevel in omega arith)
-
-    -- Both heaps have equal distances, parents, scan order and decreases.
-    pub heaps-agree : oneLevelRun M C source .search ≡ twoLevelRun M C source K .search
-    heaps-agree = one-level-search ∙ sym two-level-search
-
   -- In either run the parent of a reached node other than the source is the first arc examined that gives its distance.
   pub run-first : (v : ℕ) → Reached M source v → v ≢ source → FirstOf (search N) (examined N (search N .roster)) v
   run-first v r n = let p = reached-path v r in search-first (map-admissible valid) v (p .0) (p .1) (unfold network in n)
+
+-- ---- of every kind of heap
+
+-- The looks at segments of a removal, at the most.
+abbrev pub mostSegmentLooks : Levels → ℕ
+mostSegmentLooks one = 0
+mostSegmentLooks (two K) = K
+
+module _ (n C : ℕ) (low : C ≤ 1048575) where
+  pub lawful : (L : Levels) → Segmented L → Lawful (shapeOf L n C) C (mostSegmentLooks L)
+  lawful one s = lawful-one n C low
+  lawful (two K) s = lawful-two n C K s low
+
+pub top-is : (L : Levels) (n C : ℕ) → shapeOf L n C .top ≡ n * C + 1
+unfolding oneLevel twoLevel
+top-is one n C = refl
+top-is (two K) n C = refl
+
+buckets-are : (L : Levels) (n C : ℕ) → shapeOf L n C .buckets ≡ heapBuckets L C
+unfolding oneLevel twoLevel
+buckets-are one n C = refl
+buckets-are (two K) n C = refl
+
+looks-are : (L : Levels) (C : ℕ) → heapBuckets L C + mostSegmentLooks L ≡ removalLooks L C
+looks-are one C = omega arith
+looks-are (two K) C = refl
+
+pub allowed-segmented : (L : Levels) → Allowed L → Segmented L
+allowed-segmented one a = tt
+allowed-segmented (two K) a = a .0
+
+module _ {I : Inputs} (valid : ValidInputs I) (L : Levels) (s : Segmented L) where
+  enough : I .map .nodes * I .ceiling ≤ shapeOf L (I .map .nodes) (I .ceiling) .top
+  enough = omega (arith, top-is L (I .map .nodes) (I .ceiling))
+
+  law : Lawful (shapeOf L (I .map .nodes) (I .ceiling)) (I .ceiling) (mostSegmentLooks L)
+  law = lawful (I .map .nodes) (I .ceiling) (valid .low-ceiling) L s
+
+  -- Demands 2 and 3, of the steps of every run.
+  pub run-demanded : Demanded (I .map) (I .source) (heapBuckets L (I .ceiling)) (removalLooks L (I .ceiling)) (stepsOf L I)
+  unfolding stepsOf
+  run-demanded = rw (buckets-are L (I .map .nodes) (I .ceiling), looks-are L (I .ceiling)) at (heap-demanded valid law enough)
+
+  pub run-search : stepsOf L I .search ≡ search (network (I .map) (I .source))
+  unfolding stepsOf
+  run-search = same valid law enough
+
+  pub run-over : pick (shapeOf L (I .map .nodes) (I .ceiling)) (stepsOf L I) (I .map .nodes) ≡ nothing
+  unfolding stepsOf network
+  run-over = heap-over valid law enough
+
+-- Any two heaps have equal distances, parents, scan order and decreases.
+pub heaps-agree : {I : Inputs} → ValidInputs I → (L L′ : Levels) → Segmented L → Segmented L′ → stepsOf L I .search ≡ stepsOf L′ I .search
+heaps-agree valid L L′ s s′ = run-search valid L s ∙ sym (run-search valid L′ s′)
+
+-- The one-level run, and the two-level run for every K of document 01.
+pub one-level-demanded : {I : Inputs} → ValidInputs I → Demanded (I .map) (I .source) (oneLevelBuckets (I .ceiling)) (oneLevelBuckets (I .ceiling)) (stepsOf one I)
+one-level-demanded valid = run-demanded valid one tt
+
+pub two-level-demanded : {I : Inputs} {K : ℕ} → ValidInputs I → 2 ≤ K
+    → Demanded (I .map) (I .source) (twoLevelBuckets (I .ceiling) K) (twoLevelBuckets (I .ceiling) K + K) (stepsOf (two K) I)
+two-level-demanded {K = K} valid s = run-demanded valid (two K) s

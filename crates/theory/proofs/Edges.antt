@@ -5,9 +5,9 @@ use Rattle.theory.specs.Network.{linksFrom, network}
 use Rattle.theory.specs.Search.{label, remove, blank}
 use Rattle.theory.specs.Shape.{logFrom, ceilLog, oneLevelBuckets, twoLevelBuckets, oneLevel, twoLevel}
 use Rattle.theory.specs.Heap.{bucketFrom, heapLabel, heapRelax, heapRelaxAll, pick, rebound, boundsAfter, move, heapRemove, heapScan, heapFrom, boundsFrom, firstBounds, heapBlank, heapStart, heap}
-use Rattle.theory.specs.Runs.{oneLevelRun, twoLevelRun}
+use Rattle.theory.specs.Runs.{stepsOf}
 use Rattle.theory.specs.Edges.{answerTo, edges}
 
 pub edges-hold : map (λ row. answerTo (row .question)) edges ≡ map (λ row. row .answer) edges
-unfolding edges answerTo oneLevelRun twoLevelRun network linksFrom label remove blank logFrom ceilLog oneLevelBuckets twoLevelBuckets oneLevel twoLevel bucketFrom heapLabel heapRelax heapRelaxAll pick rebound boundsAfter move heapRemove heapScan heapFrom boundsFrom firstBounds heapBlank heapStart heap
+unfolding edges answerTo stepsOf network linksFrom label remove blank logFrom ceilLog oneLevelBuckets twoLevelBuckets oneLevel twoLevel bucketFrom heapLabel heapRelax heapRelaxAll pick rebound boundsAfter move heapRemove heapScan heapFrom boundsFrom firstBounds heapBlank heapStart heap
 edges-hold = refl

@@ -9,3 +9,4 @@ pub mod Heap
 pub mod Shapes
 pub mod Maps
 pub mod Demands
+pub mod Removals

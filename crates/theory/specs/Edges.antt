@@ -4,16 +4,13 @@ use Prim.Native.Nat.{ℕ}
 use mathlib.Core.List.{List, [], _∷_}
 use lib.ListN.{length}
 use Rattle.theory.specs.Maps.{none, Map}
-use Rattle.theory.specs.Shape.{oneLevelBuckets, twoLevelBuckets}
 use Rattle.theory.specs.Heap.{Heap, placements}
-use Rattle.theory.specs.Runs.{oneLevelRun, twoLevelRun}
+use Rattle.theory.specs.Runs.{Levels, one, two, heapBuckets, stepsOf}
 
 -- What is asked: B of a heap, or a run of it (document 01, "Edges, marked * where proved").
 pub data Question : Type 0 where
-  one-level-buckets : (C : ℕ) → Question
-  two-level-buckets : (C K : ℕ) → Question
-  one-level-run : Map → (C source : ℕ) → Question
-  two-level-run : Map → (C source K : ℕ) → Question
+  buckets-of : Levels → (C : ℕ) → Question
+  run-of : Levels → Map → (C source : ℕ) → Question
 
 -- What is answered: B, or what is given back of a run (document 01, "What the planner holds and leaves out").
 pub data Answer : Type 0 where
@@ -27,10 +24,8 @@ given B h =
 
 -- What the definitions answer.
 unfoldable pub answerTo : Question → Answer
-answerTo (one-level-buckets C) = buckets (oneLevelBuckets C)
-answerTo (two-level-buckets C K) = buckets (twoLevelBuckets C K)
-answerTo (one-level-run M C source) = given (oneLevelBuckets C) (oneLevelRun M C source)
-answerTo (two-level-run M C source K) = given (twoLevelBuckets C K) (twoLevelRun M C source K)
+answerTo (buckets-of L C) = buckets (heapBuckets L C)
+answerTo (run-of L M C source) = given (heapBuckets L C) (stepsOf L (record { map = M; ceiling = C; source = source }))
 
 -- The map of the listing (document 01, "Planning file").
 abbrev pub listing : Map
@@ -74,21 +69,21 @@ _gives_ q a = record { question = q; answer = a }
 -- The marked rows first, then ours.
 unfoldable pub edges : List Row
 edges =
-    one-level-buckets 0 gives buckets 2
-    ∷ one-level-buckets 7 gives buckets 5
-    ∷ one-level-buckets 8 gives buckets 6
-    ∷ one-level-buckets 1048575 gives buckets 22
-    ∷ two-level-buckets 8 3 gives buckets 3
-    ∷ two-level-buckets 9 3 gives buckets 4
-    ∷ two-level-buckets 1048575 16 gives buckets 6
-    ∷ two-level-buckets 1048575 64 gives buckets 5
-    ∷ one-level-run listing 9 0 gives run 4 2 6 7 9 (0 ∷ 6 ∷ 4 ∷ 6 ∷ none ∷ []) (none ∷ 5 ∷ 1 ∷ 2 ∷ none ∷ [])
-    ∷ two-level-run listing 9 0 3 gives run 4 2 4 7 11 (0 ∷ 6 ∷ 4 ∷ 6 ∷ none ∷ []) (none ∷ 5 ∷ 1 ∷ 2 ∷ none ∷ [])
-    ∷ one-level-run oneNode 0 0 gives run 1 0 2 1 1 (0 ∷ []) (none ∷ [])
-    ∷ two-level-run oneNode 0 0 2 gives run 1 0 2 1 2 (0 ∷ []) (none ∷ [])
-    ∷ one-level-run zeroPair 0 0 gives run 2 0 2 2 2 (0 ∷ 0 ∷ []) (none ∷ 0 ∷ [])
-    ∷ two-level-run zeroPair 0 0 2 gives run 2 0 2 2 4 (0 ∷ 0 ∷ []) (none ∷ 0 ∷ [])
-    ∷ one-level-run highChain 4 0 gives run 3 0 5 3 10 (0 ∷ 4 ∷ 8 ∷ []) (none ∷ 0 ∷ 1 ∷ [])
-    ∷ two-level-run lowChain 1 0 2 gives run 3 0 2 3 8 (0 ∷ 1 ∷ 2 ∷ []) (none ∷ 0 ∷ 1 ∷ [])
-    ∷ two-level-run oneArc 1 0 64 gives run 2 0 2 2 125 (0 ∷ 1 ∷ []) (none ∷ 0 ∷ [])
+    buckets-of one 0 gives buckets 2
+    ∷ buckets-of one 7 gives buckets 5
+    ∷ buckets-of one 8 gives buckets 6
+    ∷ buckets-of one 1048575 gives buckets 22
+    ∷ buckets-of (two 3) 8 gives buckets 3
+    ∷ buckets-of (two 3) 9 gives buckets 4
+    ∷ buckets-of (two 16) 1048575 gives buckets 6
+    ∷ buckets-of (two 64) 1048575 gives buckets 5
+    ∷ run-of one listing 9 0 gives run 4 2 6 7 9 (0 ∷ 6 ∷ 4 ∷ 6 ∷ none ∷ []) (none ∷ 5 ∷ 1 ∷ 2 ∷ none ∷ [])
+    ∷ run-of (two 3) listing 9 0 gives run 4 2 4 7 11 (0 ∷ 6 ∷ 4 ∷ 6 ∷ none ∷ []) (none ∷ 5 ∷ 1 ∷ 2 ∷ none ∷ [])
+    ∷ run-of one oneNode 0 0 gives run 1 0 2 1 1 (0 ∷ []) (none ∷ [])
+    ∷ run-of (two 2) oneNode 0 0 gives run 1 0 2 1 2 (0 ∷ []) (none ∷ [])
+    ∷ run-of one zeroPair 0 0 gives run 2 0 2 2 2 (0 ∷ 0 ∷ []) (none ∷ 0 ∷ [])
+    ∷ run-of (two 2) zeroPair 0 0 gives run 2 0 2 2 4 (0 ∷ 0 ∷ []) (none ∷ 0 ∷ [])
+    ∷ run-of one highChain 4 0 gives run 3 0 5 3 10 (0 ∷ 4 ∷ 8 ∷ []) (none ∷ 0 ∷ 1 ∷ [])
+    ∷ run-of (two 2) lowChain 1 0 gives run 3 0 2 3 8 (0 ∷ 1 ∷ 2 ∷ []) (none ∷ 0 ∷ 1 ∷ [])
+    ∷ run-of (two 64) oneArc 1 0 gives run 2 0 2 2 125 (0 ∷ 1 ∷ []) (none ∷ 0 ∷ [])
     ∷ []

@@ -9,4 +9,7 @@ pub mod Shape
 pub mod Heap
 pub mod Runs
 pub mod Demands
+pub mod Lawful
+pub mod Invariants
 pub mod Edges
+pub mod Removals

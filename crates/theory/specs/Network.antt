@@ -1,11 +1,11 @@
 -- A map as a search sees it: for each node the links that leave it, in order. Every theorem on the search and on the heaps is
 -- about networks; what makes a network of a map is the one place where words become links (document 000, section 1).
-use Prim.Native.Nat.{ℕ, zero, suc, _+_, _-_, _*_, _<_, _≤_}
+use Prim.Native.Nat.{ℕ, zero, suc, _+_, _-_, _<_, _≤_}
 use mathlib.Core.Path.{_≡_}
 use mathlib.Core.List.{List, [], _∷_, _++_, List·Memᴰ}
 use lib.ListN.{length}
 use Rattle.theory.specs.Sums.{sumBelow}
-use Rattle.theory.specs.Maps.{none, Map, arcs, startOf, headOf, costOf, parentOf}
+use Rattle.theory.specs.Maps.{Map, startOf, headOf, costOf, parentOf}
 
 -- One arc, as its tail sees it: number, head and cost (document 000, section 1).
 pub record Link : Type 0 where

@@ -1,7 +1,7 @@
 -- The search with no heap (document 01, "The search"; document 000, section 1): of the labelled nodes the one of smallest
 -- distance, and of smallest number among equals, is scanned.
 use Prim.Native.Nat.{ℕ, zero, suc, _+_}
-use mathlib.Core.Bool.{Bool, true, false, cond}
+use mathlib.Core.Bool.{Bool, true, cond}
 use mathlib.Core.List.{List, [], _∷_, _++_}
 use lib.ListN.{getD, set, replicate}
 use lib.Dec.{ltb}

@@ -1,7 +1,7 @@
 -- The two forms of a radix heap (document 01, "One-level heap" and "Two-level heap"): how many buckets there are, how large
 -- each is, and how a bucket is cut into segments.
 use Prim.Native.Nat.{ℕ, zero, suc, _+_, _-_, _*_, _^_, _/_, max}
-use mathlib.Core.Bool.{Bool, true, false, cond}
+use mathlib.Core.Bool.{cond}
 use lib.Dec.{leb, ltb}
 
 -- What sets the two heaps apart; everything else is common to both (document 01, "One-level heap" and "Two-level heap").

@@ -8,7 +8,7 @@ use native.Mathlib.Omega.{arith}
 use native.Mathlib.Decide.{ℕ-discrete}
 use lib.ListN.{getD, set, length-set}
 use lib.Seq.{getD-set-same, getD-set-other, set-getD}
-use Rattle.bits.specs.Word.{bit, one, Turned}
+use Rattle.bits.specs.Word.{bit, oneBit, Turned}
 use Rattle.bits.specs.Word.Laws.{bit-cases, set-bit, clear-le, clear-bit, keep-bit, nonzero}
 use Rattle.bits.specs.Sets.{bitWords, summaryWords, at, In, Room, BitSet, Kept, Changed, Inserted, Removed}
 use Rattle.bits.specs.Sets.Places.{same-place, word-below, out-of, clear-of}
@@ -221,10 +221,10 @@ module _ {d n bits summary : ℕ} {w : List ℕ} (B : BitSet d n bits summary w)
 
   -- v's word with its bit, and the summary's word then, with the bit of v's word
   abbrev with : ℕ
-  with = old + one d (v % d)
+  with = old + oneBit d (v % d)
 
   abbrev summary-with : ℕ
-  summary-with = told-by with + one d (v / d % d)
+  summary-with = told-by with + oneBit d (v / d % d)
 
   module _ (out : In d n bits w v → ⊥) where
     pub insert-turned : Turned d (v % d) old 1 with
@@ -244,10 +244,10 @@ module _ {d n bits summary : ℕ} {w : List ℕ} (B : BitSet d n bits summary w)
 
   -- v's word without its bit, and the summary's word then, without the bit of v's word
   abbrev without : ℕ
-  without = old - one d (v % d)
+  without = old - oneBit d (v % d)
 
   abbrev summary-without : ℕ
-  summary-without = told-by without - one d (v / d % d)
+  summary-without = told-by without - oneBit d (v / d % d)
 
   module _ (m : In d n bits w v) where
     remove-turned : Turned d (v % d) old 0 without
@@ -256,10 +256,10 @@ module _ {d n bits summary : ℕ} {w : List ℕ} (B : BitSet d n bits summary w)
     old-some : old ≢ 0
     old-some = nonzero old (v % d) (m .marked)
 
-    pub remove-le : one d (v % d) ≤ old
+    pub remove-le : oneBit d (v % d) ≤ old
     remove-le = clear-le d (v % d) old place (m .marked)
 
-    pub remove-told-le : one d (v / d % d) ≤ told-by without
+    pub remove-told-le : oneBit d (v / d % d) ≤ told-by without
     remove-told-le = clear-le d (v / d % d) (told-by without) summary-place (told-kept without old-some .here)
 
     pub remove-last : without ≡ 0 → Removed d n bits summary w (both-stored without summary-without) v

@@ -7,7 +7,7 @@ use native.Mathlib.Nat.{div-one, div-div-eq-div-mul, pow-succ', two-pow-succ, ze
 use native.Mathlib.Omega.{arith}
 use lib.Pow.{pow-pos, pow-lt}
 use lib.Count.{trailingZeros, under}
-use Rattle.bits.specs.Word.{bit, one, Turned}
+use Rattle.bits.specs.Word.{bit, oneBit, Turned}
 
 -- ---- bit 0 is the number's last digit, and the others are those of its half
 
@@ -30,7 +30,7 @@ bit-cases x k = go (bit x k) (bit-lt x k)
     go zero h = inl refl
     go (suc y) h = inr (omega arith)
 
-one-is : (d k : ℕ) → k < d → one d k ≡ 2 ^ k
+one-is : (d k : ℕ) → k < d → oneBit d k ≡ 2 ^ k
 one-is d k h = ap (λ (y : ℕ). y % 2 ^ d) (one-mul (2 ^ k)) ∙ mod-eq-of-lt (pow-lt h)
 
 -- ---- a clear bit is set
@@ -64,7 +64,7 @@ set-fits (suc d) (suc k) x f l h =
     let r : x / 2 + 2 ^ k < 2 ^ d = set-fits d k (x / 2) g (omega arith) (sym (bit-suc x k) ∙ h) in
     omega (arith, two-pow-succ d, two-pow-succ k)
 
-pub set-bit : (d k x : ℕ) → x < 2 ^ d → k < d → bit x k ≡ 0 → Turned d k x 1 (x + one d k)
+pub set-bit : (d k x : ℕ) → x < 2 ^ d → k < d → bit x k ≡ 0 → Turned d k x 1 (x + oneBit d k)
 set-bit d k x f l h =
     subst (λ (y : ℕ). Turned d k x 1 (x + y)) (sym (one-is d k l))
     (record { here = set-here k x h; others = λ j g. set-other k x j h g; fits = set-fits d k x f l h })
@@ -88,10 +88,10 @@ clear-other k x j h g =
     let e : x - 2 ^ k + 2 ^ k ≡ x = omega (arith, power-le k x h) in
     sym (set-other k (x - 2 ^ k) j (clear-here k x h) g) ∙ ap (λ (y : ℕ). bit y j) e
 
-pub clear-le : (d k x : ℕ) → k < d → bit x k ≡ 1 → one d k ≤ x
+pub clear-le : (d k x : ℕ) → k < d → bit x k ≡ 1 → oneBit d k ≤ x
 clear-le d k x l h = omega (arith, one-is d k l, power-le k x h)
 
-pub clear-bit : (d k x : ℕ) → x < 2 ^ d → k < d → bit x k ≡ 1 → Turned d k x 0 (x - one d k)
+pub clear-bit : (d k x : ℕ) → x < 2 ^ d → k < d → bit x k ≡ 1 → Turned d k x 0 (x - oneBit d k)
 clear-bit d k x f l h =
     subst (λ (y : ℕ). Turned d k x 0 (x - y)) (sym (one-is d k l))
     (record { here = clear-here k x h; others = λ j g. clear-other k x j h g; fits = omega arith })

@@ -2,13 +2,13 @@
 use Prim.Native.Nat.{_+_, _*_, _≤_, _<_}
 use native.Mathlib.Omega.{arith}
 use lib.ListN.{getD}
-use Rattle.buckets.specs.Links.Walk.{head-le, Walk, steps, walk-nonempty, walk-start, walk-below, walk-next, walk-end}
+use Rattle.buckets.specs.Links.Walk.{head-le, LeastWalk, steps, walk-nonempty, walk-start, walk-below, walk-next, walk-end}
 use borrow.Author.Needs.{needs}
 use Rattle.buckets.proofs.least.Statement.{statement}
 use Rattle.buckets.proofs.least.Tie as tie
 
 abbrev Inv-loop : tie.InvT-loop
-Inv-loop words n slots segments slot keys first best₀ at₀ best at = Walk n segments slot words keys best at
+Inv-loop words n slots segments slot keys first best₀ at₀ best at = LeastWalk n segments slot words keys best at
 
 abbrev μ-loop : tie.MeasureT-loop
 μ-loop words n slots segments slot keys first best₀ at₀ best at = steps n words at

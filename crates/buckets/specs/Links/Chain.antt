@@ -7,7 +7,7 @@ use native.Mathlib.Nat.{suc-inj}
 use native.Mathlib.Omega.{arith}
 use native.Mathlib.Decide.{ℕ-discrete}
 use lib.ListN.{getD}
-use Rattle.buckets.specs.Lists.{In}
+use Rattle.buckets.specs.Lists.{ListedIn}
 use Rattle.buckets.specs.Lists.Without.{in-subst}
 use Rattle.buckets.specs.Words.{placeWord, Held, Named, heads, Ours}
 use Rattle.buckets.specs.Links.{Points, Spells, Slot, Chains}
@@ -16,13 +16,13 @@ pub head-points : (n slots s : ℕ) → s < slots → Points n slots (heads n + 
 head-points n slots s h = inr (omega arith)
 
 module _ (n : ℕ) (words : List ℕ) where
-  pub chain-below : (j : ℕ) (l : List ℕ) → Spells n words j l → (x : ℕ) → In x l → x < n
+  pub chain-below : (j : ℕ) (l : List ℕ) → Spells n words j l → (x : ℕ) → ListedIn x l → x < n
   chain-below j [] c x i = absurd i
   chain-below j (y ∷ l) c x (inl e) = let h : y < n = c .1 in omega arith
   chain-below j (y ∷ l) c x (inr i) = chain-below y l (c .3) x i
 
   -- the word that a node's before word names points to the node
-  pub back : (slots j : ℕ) (l : List ℕ) → Points n slots j → Spells n words j l → (x : ℕ) → In x l
+  pub back : (slots j : ℕ) (l : List ℕ) → Points n slots j → Spells n words j l → (x : ℕ) → ListedIn x l
       → Points n slots (getD words (n + x) 0) × (getD words (getD words (n + x) 0) 0 ≡ suc x)
   back slots j [] q c x i = absurd i
   back slots j (y ∷ l) q c x (inl e) =
@@ -31,12 +31,12 @@ module _ (n : ℕ) (words : List ℕ) where
   back slots j (y ∷ l) q c x (inr i) = back slots y l (inl (c .1)) (c .3) x i
 
   -- the node that the chain's word points to is of the chain
-  pub first-in : (j : ℕ) (l : List ℕ) → Spells n words j l → (x : ℕ) → getD words j 0 ≡ suc x → In x l
+  pub first-in : (j : ℕ) (l : List ℕ) → Spells n words j l → (x : ℕ) → getD words j 0 ≡ suc x → ListedIn x l
   first-in j [] c x e = absurd (omega arith)
   first-in j (y ∷ l) c x e = inl (suc-inj (sym e ∙ c .0))
 
   -- the node after one of the chain is of the chain
-  pub next-in : (j : ℕ) (l : List ℕ) → Spells n words j l → (v u : ℕ) → In v l → getD words v 0 ≡ suc u → In u l
+  pub next-in : (j : ℕ) (l : List ℕ) → Spells n words j l → (v u : ℕ) → ListedIn v l → getD words v 0 ≡ suc u → ListedIn u l
   next-in j [] c v u i e = absurd i
   next-in j (y ∷ l) c v u (inl d) e = inr (first-in y l (c .3) u (ap (λ (k : ℕ). getD words k 0) (sym d) ∙ e))
   next-in j (y ∷ l) c v u (inr i) e = inr (next-in y l (c .3) v u i e)
@@ -49,7 +49,7 @@ module _ (n : ℕ) (words : List ℕ) where
   module _ (words′ : List ℕ) where
     -- words that the chain does not read may change
     pub frame : (j : ℕ) (l : List ℕ) → getD words′ j 0 ≡ getD words j 0
-        → ((x : ℕ) → x < n → In x l → (getD words′ x 0 ≡ getD words x 0) × (getD words′ (n + x) 0 ≡ getD words (n + x) 0))
+        → ((x : ℕ) → x < n → ListedIn x l → (getD words′ x 0 ≡ getD words x 0) × (getD words′ (n + x) 0 ≡ getD words (n + x) 0))
         → Spells n words j l → Spells n words′ j l
     frame j [] e f c = e ∙ c
     frame j (x ∷ l) e f c =
@@ -60,7 +60,7 @@ module _ (n : ℕ) (words : List ℕ) where
     module _ (v x : ℕ) (here : getD words′ (2 * n + v) 0 ≡ x)
         (same : (y : ℕ) → y < n → y ≢ v → getD words′ (2 * n + y) 0 ≡ getD words (2 * n + y) 0) where
       -- a slot whose chain is as it was, that did not hold v and does not
-      pub slot-other : (segments t : ℕ) (a : Slot n segments words t) → Spells n words′ (heads n + t) (a .nodes) → (In v (a .nodes) → ⊥)
+      pub slot-other : (segments t : ℕ) (a : Slot n segments words t) → Spells n words′ (heads n + t) (a .nodes) → (ListedIn v (a .nodes) → ⊥)
           → x ≢ placeWord segments t → Slot n segments words′ t
       slot-other segments t a c out d =
           record {
@@ -72,7 +72,7 @@ module _ (n : ℕ) (words : List ℕ) where
             all = λ y h e. go y h e (ℕ-discrete y v);
           }
         where
-          go : (y : ℕ) → y < n → getD words′ (2 * n + y) 0 ≡ placeWord segments t → Dec (y ≡ v) → In y (a .nodes)
+          go : (y : ℕ) → y < n → getD words′ (2 * n + y) 0 ≡ placeWord segments t → Dec (y ≡ v) → ListedIn y (a .nodes)
           go y h e (yes q) = absurd (d (sym here ∙ ap (λ (k : ℕ). getD words′ (2 * n + k) 0) (sym q) ∙ e))
           go y h e (no q) = a .all y h (sym (same y h q) ∙ e)
 
@@ -111,7 +111,7 @@ chains-same {n} {slots} {segments} {words} {words′} C same =
     go : (t : ℕ) → t < slots → Slot n segments words′ t
     go t ht =
         let a : Slot n segments words t = C .slot t ht in
-        let b : (x : ℕ) → In x (a .nodes) → x < n = chain-below n words (heads n + t) (a .nodes) (a .chain) in
+        let b : (x : ℕ) → ListedIn x (a .nodes) → x < n = chain-below n words (heads n + t) (a .nodes) (a .chain) in
         record {
           nodes = a .nodes;
           chain = frame n words words′ (heads n + t) (a .nodes) (same (heads n + t) (inr (omega arith)))

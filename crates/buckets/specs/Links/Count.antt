@@ -10,7 +10,7 @@ use lib.ListN.{length, getD, set, length-set}
 use lib.Seq.{getD-set-same, getD-set-other}
 use Rattle.buckets.specs.Tally.{tally}
 use Rattle.buckets.specs.Tally.Laws.{tally-leave, tally-enter, tally-stay, tally-le, tally-some}
-use Rattle.buckets.specs.Words.{bucketOf, placeWord, placeBucket, Held, Free, places, bucketCount, countAt, recount, owned, Ours, Other, Fits}
+use Rattle.buckets.specs.Words.{slotBucket, placeWord, placeBucket, Held, Free, places, bucketCount, countAt, recount, owned, Ours, Other, WordsFit}
 use Rattle.buckets.specs.Words.Laws.{named-bucket, count-words, no-count-words, count-low, recount-cases, place-word, places-length, places-same}
 use Rattle.buckets.specs.Links.{Chains, Counted, Linked, Relinked, Moved}
 use Rattle.buckets.specs.Links.Chain.{chains-same}
@@ -54,9 +54,9 @@ module _ {n slots segments : ℕ} {words : List ℕ} (L : Linked n slots segment
         off h (inl o) = omega arith
         off h (inr o) = omega (arith, count-words slots segments h)
 
-    recounted : Fits n slots segments (length words₁) × Chains n slots segments words₁ × (places n words₁ ≡ places n words)
+    recounted : WordsFit n slots segments (length words₁) × Chains n slots segments words₁ × (places n words₁ ≡ places n words)
     recounted = (
-      subst (λ (k : ℕ). Fits n slots segments k) (sym recount-length) (L .fits),
+      subst (λ (k : ℕ). WordsFit n slots segments k) (sym recount-length) (L .fits),
       chains-same (L .chains) (λ j o. recount-other j (off j o)),
       places-same n words words₁ (omega (arith, L .fits .long)) recount-length (λ v h. recount-other (2 * n + v) (omega arith)),
     )
@@ -67,7 +67,7 @@ module _ {n slots segments : ℕ} {words : List ℕ} (L : Linked n slots segment
 
     -- what `link` and `unlink` ask of the words
     ready : (P : ℕ → Type 0) (v : ℕ) → P (getD (places n words) v 0)
-        → Fits n slots segments (length words₁) × Chains n slots segments words₁ × P (getD (places n words₁) v 0)
+        → WordsFit n slots segments (length words₁) × Chains n slots segments words₁ × P (getD (places n words₁) v 0)
     ready P v p =
         (recounted .0, recounted .1, subst (λ (l : List ℕ). P (getD l v 0)) (sym (recounted .2)) p)
 
@@ -93,7 +93,7 @@ module _ {n slots segments : ℕ} {words : List ℕ} (L : Linked n slots segment
           let place : places n words₂ ≡ set (places n words) v x = R .place ∙ ap (λ (l : List ℕ). set l v x) (recounted .2) in
           record {
             linked = record {
-              fits = subst (λ (k : ℕ). Fits n slots segments k) (sym same-length) (L .fits);
+              fits = subst (λ (k : ℕ). WordsFit n slots segments k) (sym same-length) (L .fits);
               chains = R .chains;
               counted = λ other ho hw.
                   R .kept .same (countAt n slots other) (inr (omega arith))
@@ -123,10 +123,10 @@ module _ {n slots segments : ℕ} {words : List ℕ} (L : Linked n slots segment
 
     module _ (v : ℕ) (free : Free (getD (places n words) v 0)) {words₁ : List ℕ}
         (is : words₁ ≡ recount n slots segments bucket (getD words (countAt n slots bucket) 0 + 1) words) where
-      pub put-ready : Fits n slots segments (length words₁) × Chains n slots segments words₁ × Free (getD (places n words₁) v 0)
+      pub put-ready : WordsFit n slots segments (length words₁) × Chains n slots segments words₁ × Free (getD (places n words₁) v 0)
       put-ready = ready bucket (getD words (countAt n slots bucket) 0 + 1) hb hc is Free v free
 
-      pub put-moved : (s : ℕ) {words₂ : List ℕ} → v < n → s < slots → bucket ≡ bucketOf segments s
+      pub put-moved : (s : ℕ) {words₂ : List ℕ} → v < n → s < slots → bucket ≡ slotBucket segments s
           → Relinked n slots segments words₁ words₂ v (placeWord segments s) → Moved n slots segments words words₂ v (placeWord segments s)
       put-moved s hv hs of R =
           let few : slots < 512 = L .fits .few in
@@ -164,7 +164,7 @@ module _ {n slots segments : ℕ} {words : List ℕ} (L : Linked n slots segment
         )
 
     module _ {words₁ : List ℕ} (is : words₁ ≡ recount n slots segments from (getD words (countAt n slots from) 0 - 1) words) where
-      pub take-ready : Fits n slots segments (length words₁) × Chains n slots segments words₁ × Held (getD (places n words₁) v 0)
+      pub take-ready : WordsFit n slots segments (length words₁) × Chains n slots segments words₁ × Held (getD (places n words₁) v 0)
       take-ready =
           ready from (getD words (countAt n slots from) 0 - 1) (from-bucket .0) (from-bucket .1) is Held v held
 

@@ -11,7 +11,7 @@ use lib.Seq.{getD-set-same, getD-set-other, set-set}
 use Rattle.buckets.specs.Answer.{InSlot, InBucket}
 use Rattle.buckets.specs.Tally.{tally}
 use Rattle.buckets.specs.Tally.Laws.{tally-leave, tally-enter, tally-stay, tally-zero}
-use Rattle.buckets.specs.Words.{placeWord, placeBucket, placeSlot, Held, Free, Named, places, heads, bucketOf, bucketCount, countAt, owned, Ours, Other, Fits}
+use Rattle.buckets.specs.Words.{placeWord, placeBucket, placeSlot, Held, Free, Named, places, heads, slotBucket, bucketCount, countAt, owned, Ours, Other, WordsFit}
 use Rattle.buckets.specs.Words.Laws.{named-bucket, kept-trans, place-word, places-length, places-are, places-same, places-moved}
 use Rattle.buckets.specs.Links.{Slot, Counted, Linked, Moved}
 use Rattle.buckets.specs.Links.Chain.{frame, slot-other, chains-again, chains-same}
@@ -28,7 +28,7 @@ module _ {n slots segments : ℕ} {words : List ℕ} (L : Linked n slots segment
       → Linked n slots segments words′ × (places n words′ ≡ places n words)
   linked-words {words′} size same = (
     record {
-      fits = subst (λ (k : ℕ). Fits n slots segments k) (sym size) (L .fits);
+      fits = subst (λ (k : ℕ). WordsFit n slots segments k) (sym size) (L .fits);
       chains = chains-same (L .chains) (λ j o. same j (wider j o));
       counted = λ bucket hb hc.
           same (countAt n slots bucket) (inr (omega arith)) ∙ L .counted bucket hb hc
@@ -59,7 +59,7 @@ module _ {n slots segments : ℕ} {words : List ℕ} (L : Linked n slots segment
   -- ---- what a place word tells
 
   -- a node of a slot is in the slot's bucket
-  pub slot-bucket : (s u : ℕ) → s < slots → InSlot n segments s words u → InBucket n (bucketOf segments s) words u
+  pub slot-bucket : (s u : ℕ) → s < slots → InSlot n segments s words u → InBucket n (slotBucket segments s) words u
   slot-bucket s u hs p = (p .0, omega (arith, p .1, L .fits .few))
 
   module _ (v : ℕ) (hv : v < n) where
@@ -76,12 +76,12 @@ module _ {n slots segments : ℕ} {words : List ℕ} (L : Linked n slots segment
     -- and its bucket is one of the buckets, and the slot's
     pub held-bucket : Held place
         → (0 < placeBucket place) × (placeBucket place ≤ bucketCount slots segments)
-        × (placeBucket place ≡ bucketOf segments (placeSlot place))
+        × (placeBucket place ≡ slotBucket segments (placeSlot place))
     held-bucket h = named-bucket (L .fits .few) (L .fits .whole) (held-named h)
 
     -- a node of a bucket is in one of the bucket's slots
     pub bucket-slot : (bucket : ℕ) → 0 < bucket → placeBucket place ≡ bucket
-        → (s : ℕ) × (s < slots) × (bucketOf segments s ≡ bucket) × InSlot n segments s words v
+        → (s : ℕ) × (s < slots) × (slotBucket segments s ≡ bucket) × InSlot n segments s words v
     bucket-slot bucket hb e =
         let h : Held place = omega arith in
         (placeSlot place, held-named h .0, omega (arith, held-bucket h .2), (hv, held-named h .1))
@@ -134,7 +134,7 @@ module _ {n slots segments : ℕ} {words : List ℕ} (L : Linked n slots segment
         linked-mark =
             record {
               linked = record {
-                fits = subst (λ (k : ℕ). Fits n slots segments k) (sym mark-length) (L .fits);
+                fits = subst (λ (k : ℕ). WordsFit n slots segments k) (sym mark-length) (L .fits);
                 chains = chains-again n words marked v x mark-here mark-places slots segments (L .chains) (λ h. absurd (omega arith)) mark-slot;
                 counted = mark-counted;
               };
@@ -145,7 +145,7 @@ module _ {n slots segments : ℕ} {words : List ℕ} (L : Linked n slots segment
 -- ---- the beginning
 
 -- words that are all 0: every slot is empty, and no node is held
-pub linked-zero : (n slots segments : ℕ) (words : List ℕ) → Fits n slots segments (length words)
+pub linked-zero : (n slots segments : ℕ) (words : List ℕ) → WordsFit n slots segments (length words)
     → ((j : ℕ) → Ours n (owned slots segments) j → getD words j 0 ≡ 0)
     → Linked n slots segments words × (places n words ≡ replicate n 0)
 linked-zero n slots segments words F clear = (

@@ -8,9 +8,9 @@ use native.Mathlib.Nat.{suc-inj}
 use native.Mathlib.Omega.{arith}
 use native.Mathlib.Decide.{ℕ-discrete}
 use lib.ListN.{length, getD, set, length-set}
-use Rattle.buckets.specs.Lists.{In, Once}
+use Rattle.buckets.specs.Lists.{ListedIn, Once}
 use Rattle.buckets.specs.Lists.Without.{in-subst}
-use Rattle.buckets.specs.Words.{placeWord, nodeOr, Free, places, heads, Other, Fits}
+use Rattle.buckets.specs.Words.{placeWord, nodeOr, Free, places, heads, Other, WordsFit}
 use Rattle.buckets.specs.Words.Laws.{place-named, place-word, node-or-is, node-or-low, node-or-apart}
 use Rattle.buckets.specs.Links.{Spells, Slot, Chains, Relinked}
 use Rattle.buckets.specs.Links.Chain as chain
@@ -32,13 +32,13 @@ record AfterPut (n v s x : ℕ) (words words′ : List ℕ) : Type 0 where
 module _ {n slots segments v s : ℕ} {words words′ : List ℕ} (few : slots < 512) (hv : v < n) (hs : s < slots)
     (free : Free (getD words (2 * n + v) 0)) (C : Chains n slots segments words) (f : AfterPut n v s (placeWord segments s) words words′) where
   -- v is in no slot
-  new : (t : ℕ) (ht : t < slots) (x : ℕ) → In x (C .slot t ht .nodes) → x ≢ v
+  new : (t : ℕ) (ht : t < slots) (x : ℕ) → ListedIn x (C .slot t ht .nodes) → x ≢ v
   new t ht x i e =
       let g : getD words (2 * n + v) 0 ≡ placeWord segments t = ap (λ (k : ℕ). getD words (2 * n + k) 0) (sym e) ∙ C .slot t ht .held x i in
       omega arith
 
   -- the slot's old chain, from v's next word
-  tail : (l : List ℕ) → Spells n words (heads n + s) l → Once l → ((x : ℕ) → In x l → x ≢ v) → Spells n words′ v l
+  tail : (l : List ℕ) → Spells n words (heads n + s) l → Once l → ((x : ℕ) → ListedIn x l → x ≢ v) → Spells n words′ v l
   tail [] c o k = f .next ∙ c
   tail (u ∷ r) c o k = (
     f .next ∙ c .0,
@@ -64,7 +64,7 @@ module _ {n slots segments v s : ℕ} {words words′ : List ℕ} (few : slots <
         all = λ x h e. go x h e (ℕ-discrete x v);
       }
     where
-      go : (x : ℕ) → x < n → getD words′ (2 * n + x) 0 ≡ placeWord segments s → Dec (x ≡ v) → In x (v ∷ C .slot s hs .nodes)
+      go : (x : ℕ) → x < n → getD words′ (2 * n + x) 0 ≡ placeWord segments s → Dec (x ≡ v) → ListedIn x (v ∷ C .slot s hs .nodes)
       go x h e (yes d) = inl d
       go x h e (no d) = inr (C .slot s hs .all x h (sym (f .other-places x h d) ∙ e))
 
@@ -78,7 +78,7 @@ module _ {n slots segments v s : ℕ} {words words′ : List ℕ} (few : slots <
       (λ i. new t ht v i refl)
       (omega arith)
     where
-      apart : (x : ℕ) → In x (C .slot t ht .nodes) → getD words (heads n + s) 0 ≡ suc x → ⊥
+      apart : (x : ℕ) → ListedIn x (C .slot t ht .nodes) → getD words (heads n + s) 0 ≡ suc x → ⊥
       apart x i e =
           let b : getD words (2 * n + x) 0 ≡ placeWord segments s =
           C .slot s hs .held x (first-in n words (heads n + s) (C .slot s hs .nodes) (C .slot s hs .chain) x e) in
@@ -93,7 +93,7 @@ module _ {n slots segments v s : ℕ} {words words′ : List ℕ} (few : slots <
 
 -- ---- the code's stores
 
-module _ {n slots segments : ℕ} {words : List ℕ} (F : Fits n slots segments (length words)) (C : Chains n slots segments words)
+module _ {n slots segments : ℕ} {words : List ℕ} (F : WordsFit n slots segments (length words)) (C : Chains n slots segments words)
     (v s : ℕ) (hv : v < n) (hs : s < slots) where
   -- the slot's head word, 0 or its first node and 1
   abbrev first : ℕ

@@ -6,7 +6,7 @@ use Prim.Native.Nat.{ℕ, _+_, _*_, _<_}
 use native.Mathlib.Omega.{arith}
 use lib.ListN.{length, getD, set, length-set}
 use lib.Seq.{getD-set-same, getD-set-other}
-use Rattle.buckets.specs.Words.{Other, Fits}
+use Rattle.buckets.specs.Words.{Other, WordsFit}
 use Rattle.buckets.specs.Words.Laws.{places-moved}
 use Rattle.buckets.specs.Links.{Chains, Relinked}
 
@@ -35,7 +35,7 @@ read-here words i x ss h c = read-other (set words i x) ss i c ∙ getD-set-same
 
 -- ---- the lists are in order again
 
-pub relinked-stores : {n slots segments : ℕ} {words : List ℕ} → Fits n slots segments (length words) → (ss : List (ℕ × ℕ)) (v x : ℕ) → v < n
+pub relinked-stores : {n slots segments : ℕ} {words : List ℕ} → WordsFit n slots segments (length words) → (ss : List (ℕ × ℕ)) (v x : ℕ) → v < n
     → getD (store words ss) (2 * n + v) 0 ≡ x
     → ((u : ℕ) → u < n → u ≢ v → getD (store words ss) (2 * n + u) 0 ≡ getD words (2 * n + u) 0)
     → ((j : ℕ) → Other n slots j → getD (store words ss) j 0 ≡ getD words j 0)

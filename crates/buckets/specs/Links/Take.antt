@@ -8,9 +8,9 @@ use native.Mathlib.Nat.{suc-inj}
 use native.Mathlib.Omega.{arith}
 use native.Mathlib.Decide.{ℕ-discrete}
 use lib.ListN.{length, getD, set, length-set}
-use Rattle.buckets.specs.Lists.{In, Once}
+use Rattle.buckets.specs.Lists.{ListedIn, Once}
 use Rattle.buckets.specs.Lists.Without.{without, in-subst, in-without, not-in-without, in-other, once-without}
-use Rattle.buckets.specs.Words.{placeWord, placeSlot, nodeOr, Held, Named, places, heads, Other, Fits}
+use Rattle.buckets.specs.Words.{placeWord, placeSlot, nodeOr, Held, Named, places, heads, Other, WordsFit}
 use Rattle.buckets.specs.Words.Laws.{place-word, node-or-is, node-or-low, node-or-apart}
 use Rattle.buckets.specs.Links.{Points, Spells, Slot, Chains, Relinked}
 use Rattle.buckets.specs.Links.Chain.{head-points, chain-below, back, next-in, slot-other, chains-again, slots-again}
@@ -27,7 +27,7 @@ record AfterTake (n slots v : ℕ) (words words′ : List ℕ) : Type 0 where
 
 module _ {n slots segments v s : ℕ} {words words′ : List ℕ} (few : slots < 512) (hv : v < n) (hs : s < slots)
     (at : getD words (2 * n + v) 0 ≡ placeWord segments s) (C : Chains n slots segments words) (f : AfterTake n slots v words words′) where
-  v-in : In v (C .slot s hs .nodes)
+  v-in : ListedIn v (C .slot s hs .nodes)
   v-in = C .slot s hs .all v hv at
 
   v-back : getD words (getD words (n + v) 0) 0 ≡ suc v
@@ -38,7 +38,7 @@ module _ {n slots segments v s : ℕ} {words words′ : List ℕ} (few : slots <
   kept j k q e d = f .points j q (λ b. d (sym e ∙ ap (λ (i : ℕ). getD words i 0) b ∙ v-back)) ∙ e
 
   -- a chain without v, and without the node after v
-  apart : (j : ℕ) (l : List ℕ) → Points n slots j → Spells n words j l → (In v l → ⊥) → ((x : ℕ) → In x l → getD words v 0 ≡ suc x → ⊥)
+  apart : (j : ℕ) (l : List ℕ) → Points n slots j → Spells n words j l → (ListedIn v l → ⊥) → ((x : ℕ) → ListedIn x l → getD words v 0 ≡ suc x → ⊥)
       → Spells n words′ j l
   apart j [] q c k d = kept j 0 q c (omega arith)
   apart j (x ∷ l) q c k d = (
@@ -58,7 +58,7 @@ module _ {n slots segments v s : ℕ} {words words′ : List ℕ} (few : slots <
     apart u l (inl (c .1)) (c .3) (λ i. o .0 (inr i)) (λ x i e. o .1 .0 (in-subst x u l (suc-inj (sym e ∙ c .0)) i)),
   )
 
-  whole : (j : ℕ) (l : List ℕ) → Points n slots j → Spells n words j l → Once l → (m : In v l) → Spells n words′ j (without v l m)
+  whole : (j : ℕ) (l : List ℕ) → Points n slots j → Spells n words j l → Once l → (m : ListedIn v l) → Spells n words′ j (without v l m)
   whole j [] q c o m = absurd m
   whole j (y ∷ l) q c o (inl e) =
       let b : getD words (n + v) 0 ≡ j = ap (λ (k : ℕ). getD words (n + k) 0) e ∙ c .2 in
@@ -82,14 +82,14 @@ module _ {n slots segments v s : ℕ} {words words′ : List ℕ} (few : slots <
         all = λ x h e. go x h e (ℕ-discrete x v);
       }
     where
-      is-held : (x : ℕ) → In x (without v (C .slot s hs .nodes) v-in) → In x (C .slot s hs .nodes)
+      is-held : (x : ℕ) → ListedIn x (without v (C .slot s hs .nodes) v-in) → ListedIn x (C .slot s hs .nodes)
           → getD words′ (2 * n + x) 0 ≡ placeWord segments s
       is-held x i j =
           f .other-places x (chain-below n words (heads n + s) (C .slot s hs .nodes) (C .slot s hs .chain) x j)
           (λ e. not-in-without v (C .slot s hs .nodes) v-in (C .slot s hs .once) (in-subst x v (without v (C .slot s hs .nodes) v-in) e i))
           ∙ C .slot s hs .held x j
 
-      go : (x : ℕ) → x < n → getD words′ (2 * n + x) 0 ≡ placeWord segments s → Dec (x ≡ v) → In x (without v (C .slot s hs .nodes) v-in)
+      go : (x : ℕ) → x < n → getD words′ (2 * n + x) 0 ≡ placeWord segments s → Dec (x ≡ v) → ListedIn x (without v (C .slot s hs .nodes) v-in)
       go x h e (yes d) =
           let g : getD words′ (2 * n + v) 0 ≡ placeWord segments s = ap (λ (k : ℕ). getD words′ (2 * n + k) 0) (sym d) ∙ e in
           let z : getD words′ (2 * n + v) 0 ≡ 0 = f .place in
@@ -104,10 +104,10 @@ module _ {n slots segments v s : ℕ} {words words′ : List ℕ} (few : slots <
       not-v
       (omega arith)
     where
-      not-v : In v (C .slot t ht .nodes) → ⊥
+      not-v : ListedIn v (C .slot t ht .nodes) → ⊥
       not-v i = let g : getD words (2 * n + v) 0 ≡ placeWord segments t = C .slot t ht .held v i in omega arith
 
-      not-after : (x : ℕ) → In x (C .slot t ht .nodes) → getD words v 0 ≡ suc x → ⊥
+      not-after : (x : ℕ) → ListedIn x (C .slot t ht .nodes) → getD words v 0 ≡ suc x → ⊥
       not-after x i e =
           let b : getD words (2 * n + x) 0 ≡ placeWord segments s =
           C .slot s hs .held x (next-in n words (heads n + s) (C .slot s hs .nodes) (C .slot s hs .chain) v x v-in e) in
@@ -135,7 +135,7 @@ points-ours n slots i j (inl h) (inr o) = omega arith
 points-ours n slots i j (inr h) (inl o) = omega arith
 points-ours n slots i j (inr h) (inr o) = omega arith
 
-module _ {n slots segments : ℕ} {words : List ℕ} (F : Fits n slots segments (length words)) (C : Chains n slots segments words)
+module _ {n slots segments : ℕ} {words : List ℕ} (F : WordsFit n slots segments (length words)) (C : Chains n slots segments words)
     (v : ℕ) (hv : v < n) (held : Held (getD (places n words) v 0)) where
   -- v's next word, 0 or the node after it and 1
   abbrev next : ℕ
@@ -152,7 +152,7 @@ module _ {n slots segments : ℕ} {words : List ℕ} (F : Fits n slots segments 
   named : Named slots segments (getD words (2 * n + v) 0)
   named = C .named v hv (omega (arith, place-word n words v hv))
 
-  slot-of-in : In v (C .slot slot-of (named .0) .nodes)
+  slot-of-in : ListedIn v (C .slot slot-of (named .0) .nodes)
   slot-of-in = C .slot slot-of (named .0) .all v hv (named .1)
 
   home-points : Points n slots home

@@ -1,4 +1,4 @@
--- What is read: `first`, `take_first`, `is_empty`, and `least`, a walk along a slot's chain, of which `Walk` is the loop's invariant and `steps` the
+-- What is read: `first`, `take_first`, `is_empty`, and `least`, a walk along a slot's chain, of which `LeastWalk` is the loop's invariant and `steps` the
 -- measure. Assumes nothing.
 use mathlib.Core.Path.{_≡_, refl, sym, ap, _∙_, subst}
 use mathlib.Core.Logic.{_⊎_, inl, inr, ⊎-elim}
@@ -11,12 +11,12 @@ use native.Mathlib.Decide.{decLt}
 use lib.Dec.{eqb}
 use lib.ListN.{length, getD}
 use borrow.Author.Tests.{eqb-true, eqb-false}
-use Rattle.buckets.specs.Answer.{InSlot, InBucket, Some, None, EmptyBucket, Before, Earlier, Least}
-use Rattle.buckets.specs.Lists.{In, Once}
+use Rattle.buckets.specs.Answer.{InSlot, InBucket, Some, None, EmptyBucket, Before, Earlier, LeastIn}
+use Rattle.buckets.specs.Lists.{ListedIn, Once}
 use Rattle.buckets.specs.Lists.Without.{few}
 use Rattle.buckets.specs.Tally.{tally}
 use Rattle.buckets.specs.Tally.Laws.{tally-some, tally-find}
-use Rattle.buckets.specs.Words.{bucketOf, placeBucket, places, heads, bucketCount, countAt}
+use Rattle.buckets.specs.Words.{slotBucket, placeBucket, places, heads, bucketCount, countAt}
 use Rattle.buckets.specs.Words.Laws.{bucket-one, count-words, place-word, places-length}
 use Rattle.buckets.specs.Links.{Spells, Slot, Linked}
 use Rattle.buckets.specs.Links.Chain as chain
@@ -34,7 +34,7 @@ module _ {n slots segments : ℕ} {words : List ℕ} (L : Linked n slots segment
       go (L .chains .slot s hs .nodes) (L .chains .slot s hs .chain)
       (L .chains .slot s hs .all x (p .0) (sym (place-word n words x (p .0)) ∙ p .1))
     where
-      go : (l : List ℕ) → Spells n words (heads n + s) l → In x l → ⊥
+      go : (l : List ℕ) → Spells n words (heads n + s) l → ListedIn x l → ⊥
       go [] c i = i
       go (y ∷ l) c i = let d : getD words (heads n + s) 0 ≡ suc y = c .0 in omega arith
 
@@ -55,7 +55,7 @@ module _ {n slots segments : ℕ} {words : List ℕ} (L : Linked n slots segment
   pub first-held : (u : ℕ) → InSlot n segments s words u → 512 ≤ getD (places n words) u 0
   first-held u p = omega (arith, p .1)
 
-  pub first-bucket : (u : ℕ) → InSlot n segments s words u → placeBucket (getD words (2 * n + u) 0) ≡ bucketOf segments s
+  pub first-bucket : (u : ℕ) → InSlot n segments s words u → placeBucket (getD words (2 * n + u) 0) ≡ slotBucket segments s
   first-bucket u p = omega (arith, place-word n words u (p .0), p .1, L .fits .few)
 
 -- ---- is_empty: one word tells
@@ -87,8 +87,8 @@ module _ {n slots segments : ℕ} {words : List ℕ} (L : Linked n slots segment
 
   module _ (one : segments ≡ 1) where
     -- a bucket of one segment is its slot
-    one-slot : (s : ℕ) → bucketOf segments s ≡ s + 1
-    one-slot s = ap (λ (i : ℕ). bucketOf i s) one ∙ bucket-one s
+    one-slot : (s : ℕ) → slotBucket segments s ≡ s + 1
+    one-slot s = ap (λ (i : ℕ). slotBucket i s) one ∙ bucket-one s
 
     pub only-low : bucket - 1 < slots
     only-low = omega (arith, one-slot (slots - 1), L .fits .some)
@@ -133,15 +133,15 @@ steps-chain n words (suc k) j (x ∷ l) c h =
     ap (λ (q : ℕ). steps (suc k) words q) (c .0) ∙ ap suc (steps-chain n words k x l (c .3) (omega arith))
 
 -- the walk has come to a word that holds q: best goes before each node of the slot that is not still to come
-pub record Walk (n segments s : ℕ) (words keys : List ℕ) (best q : ℕ) : Type 0 where
+pub record LeastWalk (n segments s : ℕ) (words keys : List ℕ) (best q : ℕ) : Type 0 where
   pub in-slot : InSlot n segments s words best
   from : ℕ
   here : getD words from 0 ≡ q
   rest : List ℕ
   chain : Spells n words from rest
   short : length rest ≤ n
-  own : (x : ℕ) → In x rest → InSlot n segments s words x
-  seen : (x : ℕ) → InSlot n segments s words x → In x rest ⊎ Before keys best x
+  own : (x : ℕ) → ListedIn x rest → InSlot n segments s words x
+  seen : (x : ℕ) → InSlot n segments s words x → ListedIn x rest ⊎ Before keys best x
 
 module _ {n slots segments : ℕ} {words : List ℕ} (L : Linked n slots segments words) (s : ℕ) (hs : s < slots) (keys : List ℕ)
     (some : Some (InSlot n segments s words)) where
@@ -152,7 +152,7 @@ module _ {n slots segments : ℕ} {words : List ℕ} (L : Linked n slots segment
       go (yes h) = h
       go (no h) = absurd (first-none L s hs (omega arith) (some .node) (some .holds))
 
-  pub walk-start : Walk n segments s words keys (getD words (heads n + s) 0 - 1) (getD words (getD words (heads n + s) 0 - 1) 0)
+  pub walk-start : LeastWalk n segments s words keys (getD words (heads n + s) 0 - 1) (getD words (getD words (heads n + s) 0 - 1) 0)
   walk-start =
       let a : Slot n segments words s = L .chains .slot s hs in
       go (a .nodes) (a .chain) (a .once)
@@ -162,15 +162,15 @@ module _ {n slots segments : ℕ} {words : List ℕ} (L : Linked n slots segment
       (λ x p. a .all x (p .0) (sym (place-word n words x (p .0)) ∙ p .1))
     where
       go : (l : List ℕ) → Spells n words (heads n + s) l → Once l
-          → ((x : ℕ) → In x l → InSlot n segments s words x)
-          → ((x : ℕ) → InSlot n segments s words x → In x l)
-          → Walk n segments s words keys (getD words (heads n + s) 0 - 1) (getD words (getD words (heads n + s) 0 - 1) 0)
+          → ((x : ℕ) → ListedIn x l → InSlot n segments s words x)
+          → ((x : ℕ) → InSlot n segments s words x → ListedIn x l)
+          → LeastWalk n segments s words keys (getD words (heads n + s) 0 - 1) (getD words (getD words (heads n + s) 0 - 1) 0)
       go [] c o held all = let h : 0 < getD words (heads n + s) 0 = walk-nonempty in absurd (omega arith)
       go (x ∷ r) c o held all =
           let d : getD words (heads n + s) 0 ≡ suc x = c .0 in
           let e : x ≡ getD words (heads n + s) 0 - 1 = omega arith in
           let f : suc (length r) ≤ n = few n (x ∷ r) o (chain-below n words (heads n + s) (x ∷ r) c) in
-          subst (λ (k : ℕ). Walk n segments s words keys k (getD words k 0)) e
+          subst (λ (k : ℕ). LeastWalk n segments s words keys k (getD words k 0)) e
           (record {
             in-slot = held x (inl refl);
             from = x;
@@ -182,17 +182,17 @@ module _ {n slots segments : ℕ} {words : List ℕ} (L : Linked n slots segment
             seen = λ y p. ⊎-elim (λ q. inr (inr (ap (λ (k : ℕ). getD keys k 0) (sym q), omega arith))) (λ j. inl j) (all y p);
           })
 
-module _ {n segments s : ℕ} {words keys : List ℕ} {best q : ℕ} (W : Walk n segments s words keys best q) where
+module _ {n segments s : ℕ} {words keys : List ℕ} {best q : ℕ} (W : LeastWalk n segments s words keys best q) where
   pub walk-below : q ≤ n
   walk-below = omega (arith, W .here, chain-le n words (W .from) (W .rest) (W .chain))
 
   pub walk-next : (q ≡ 0 → ⊥) → (r : ℕ) → Earlier keys best (q - 1) r
-      → Walk n segments s words keys r (getD words (q - 1) 0) × (steps n words (getD words (q - 1) 0) < steps n words q)
+      → LeastWalk n segments s words keys r (getD words (q - 1) 0) × (steps n words (getD words (q - 1) 0) < steps n words q)
   walk-next h r f = go (W .rest) (W .chain) (W .short) (W .own) (W .seen)
     where
-      go : (l : List ℕ) → Spells n words (W .from) l → length l ≤ n → ((x : ℕ) → In x l → InSlot n segments s words x)
-          → ((x : ℕ) → InSlot n segments s words x → In x l ⊎ Before keys best x)
-          → Walk n segments s words keys r (getD words (q - 1) 0) × (steps n words (getD words (q - 1) 0) < steps n words q)
+      go : (l : List ℕ) → Spells n words (W .from) l → length l ≤ n → ((x : ℕ) → ListedIn x l → InSlot n segments s words x)
+          → ((x : ℕ) → InSlot n segments s words x → ListedIn x l ⊎ Before keys best x)
+          → LeastWalk n segments s words keys r (getD words (q - 1) 0) × (steps n words (getD words (q - 1) 0) < steps n words q)
       go [] c short own seen = absurd (h (sym (W .here) ∙ c))
       go (x ∷ l) c short own seen =
           let e : getD words (W .from) 0 ≡ suc x = c .0 in
@@ -201,7 +201,7 @@ module _ {n segments s : ℕ} {words keys : List ℕ} {best q : ℕ} (W : Walk n
           let m : steps n words (getD words x 0) ≡ length l = steps-chain n words n x l (c .3) (omega arith) in
           let g : steps n words (getD words (W .from) 0) ≡ suc (length l) = steps-chain n words n (W .from) (x ∷ l) c short in
           let g′ : steps n words q ≡ suc (length l) = ap (λ (k : ℕ). steps n words k) (sym (W .here)) ∙ g in
-          subst (λ (k : ℕ). Walk n segments s words keys r (getD words k 0) × (steps n words (getD words k 0) < steps n words q)) d (
+          subst (λ (k : ℕ). LeastWalk n segments s words keys r (getD words k 0) × (steps n words (getD words k 0) < steps n words q)) d (
             record {
               in-slot = ⊎-elim (λ (z : r ≡ best). subst (λ (k : ℕ). InSlot n segments s words k) (sym z) (W .in-slot))
                   (λ (z : r ≡ x). subst (λ (k : ℕ). InSlot n segments s words k) (sym z) (own x (inl refl))) (rx .one);
@@ -220,11 +220,11 @@ module _ {n segments s : ℕ} {words keys : List ℕ} {best q : ℕ} (W : Walk n
             omega arith,
           )
 
-  pub walk-end : q ≡ 0 → Least n segments s words keys best
+  pub walk-end : q ≡ 0 → LeastIn n segments s words keys best
   walk-end e =
       record { in-slot = W .in-slot; before = λ u p. go (W .rest) (W .chain) u (W .seen u p) }
     where
-      go : (l : List ℕ) → Spells n words (W .from) l → (u : ℕ) → In u l ⊎ Before keys best u → Before keys best u
+      go : (l : List ℕ) → Spells n words (W .from) l → (u : ℕ) → ListedIn u l ⊎ Before keys best u → Before keys best u
       go [] c u (inl i) = absurd i
       go (x ∷ l) c u (inl i) = let d : getD words (W .from) 0 ≡ suc x = c .0 in absurd (omega (arith, W .here))
       go [] c u (inr b) = b

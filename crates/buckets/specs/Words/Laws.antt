@@ -10,27 +10,27 @@ use native.Mathlib.Omega.{arith}
 use lib.ListN.{length, getD, set, take, drop, length-set, length-take, length-drop}
 use lib.Seq.{getD-set-same, getD-set-other, getD-take, getD-drop, ext-getD}
 use borrow.Author.Tests.{lt-ltb, le-ltb}
-use Rattle.buckets.specs.Words.{bucketOf, placeWord, placeBucket, placeSlot, nodeOr, Named, places, bucketCount, countWords, countAt, recount, Other, Kept, Fits}
+use Rattle.buckets.specs.Words.{slotBucket, placeWord, placeBucket, placeSlot, nodeOr, Named, places, bucketCount, countWords, countAt, recount, Other, WordsKept, WordsFit}
 
 -- ---- buckets of slots
 
-pub bucket-le : (segments slot : ℕ) → bucketOf segments slot ≤ slot + 1
+pub bucket-le : (segments slot : ℕ) → slotBucket segments slot ≤ slot + 1
 bucket-le segments slot = omega (arith, div-le-self slot segments)
 
 -- the slots of a bucket
-pub bucket-of : (segments bucket slot : ℕ) → 0 < bucket → (bucket - 1) * segments ≤ slot → slot < bucket * segments → bucketOf segments slot ≡ bucket
+pub bucket-of : (segments bucket slot : ℕ) → 0 < bucket → (bucket - 1) * segments ≤ slot → slot < bucket * segments → slotBucket segments slot ≡ bucket
 bucket-of segments (suc b) slot h low high =
     let e : suc b - 1 ≡ b = omega arith in
     let d : slot / segments ≡ b = div-eq-of-lt-le segments (rw e at low) (omega arith) in
     omega arith
 
 pub bucket-range : (segments slot : ℕ) → 0 < segments
-    → ((bucketOf segments slot - 1) * segments ≤ slot) × (slot < bucketOf segments slot * segments)
+    → ((slotBucket segments slot - 1) * segments ≤ slot) × (slot < slotBucket segments slot * segments)
 bucket-range segments slot h =
-    let e : bucketOf segments slot - 1 ≡ slot / segments = omega arith in
+    let e : slotBucket segments slot - 1 ≡ slot / segments = omega arith in
     (rw e (div-mul-le-self slot segments), div-lt-iff-lt-mul h .0 (omega arith))
 
-pub bucket-one : (slot : ℕ) → bucketOf 1 slot ≡ slot + 1
+pub bucket-one : (slot : ℕ) → slotBucket 1 slot ≡ slot + 1
 bucket-one slot = omega (arith, div-one slot)
 
 -- so many slots make so many buckets
@@ -39,13 +39,13 @@ bucket-count segments (suc b) hs hb =
     bucket-of segments (suc b) ((suc b - 1) * segments + 1 - 1) hb (omega arith)
     (let e : suc b - 1 ≡ b = omega arith in rw e (omega arith))
 
-pub bucket-mono : (segments s t : ℕ) → 0 < segments → s ≤ t → bucketOf segments s ≤ bucketOf segments t
+pub bucket-mono : (segments s t : ℕ) → 0 < segments → s ≤ t → slotBucket segments s ≤ slotBucket segments t
 bucket-mono segments s t h l =
     let d : s / segments ≤ t / segments = le-div-iff-mul-le h .1 (omega (arith, div-mul-le-self s segments)) in
     omega arith
 
 -- a slot's bucket is one of the buckets
-pub bucket-in : {n slots segments size : ℕ} → Fits n slots segments size → (bucket slot : ℕ) → slot < slots → bucket ≡ bucketOf segments slot
+pub bucket-in : {n slots segments size : ℕ} → WordsFit n slots segments size → (bucket slot : ℕ) → slot < slots → bucket ≡ slotBucket segments slot
     → (0 < bucket) × (bucket ≤ bucketCount slots segments)
 bucket-in {n} {slots} {segments} F bucket slot hs e =
     omega (arith, bucket-mono segments slot (slots - 1) (F .whole) (omega arith))
@@ -57,9 +57,9 @@ place-named slots segments s few h =
 
 -- the bucket of a place word that names a slot
 pub named-bucket : {slots segments place : ℕ} → slots < 512 → 0 < segments → Named slots segments place
-    → (0 < placeBucket place) × (placeBucket place ≤ bucketCount slots segments) × (placeBucket place ≡ bucketOf segments (placeSlot place))
+    → (0 < placeBucket place) × (placeBucket place ≤ bucketCount slots segments) × (placeBucket place ≡ slotBucket segments (placeSlot place))
 named-bucket {slots} {segments} {place} few whole h =
-    let m : bucketOf segments (placeSlot place) ≤ bucketCount slots segments =
+    let m : slotBucket segments (placeSlot place) ≤ bucketCount slots segments =
     bucket-mono segments (placeSlot place) (slots - 1) whole (omega arith) in
     omega arith
 
@@ -74,7 +74,7 @@ unfolding countWords
 no-count-words slots segments h = ap (λ (t : Bool). cond t (bucketCount slots segments) 0) (le-ltb 1 segments h)
 
 -- a count word is one of the words
-pub count-low : {n slots segments size : ℕ} → Fits n slots segments size → (bucket : ℕ) → bucket ≤ bucketCount slots segments → 1 < segments
+pub count-low : {n slots segments size : ℕ} → WordsFit n slots segments size → (bucket : ℕ) → bucket ≤ bucketCount slots segments → 1 < segments
     → countAt n slots bucket < size
 count-low {n} {slots} {segments} F bucket hc more = omega (arith, F .long, count-words slots segments more)
 
@@ -140,15 +140,15 @@ module _ (n : ℕ) (words words′ : List ℕ) (long : 3 * n ≤ length words) (
 
 -- ---- what is kept
 
-pub kept-refl : (n own : ℕ) (words : List ℕ) → Kept n own words words
+pub kept-refl : (n own : ℕ) (words : List ℕ) → WordsKept n own words words
 kept-refl n own words = record { same-length = refl; same = λ j o. refl }
 
-pub kept-trans : {n own : ℕ} {words words′ words″ : List ℕ} → Kept n own words words′ → Kept n own words′ words″ → Kept n own words words″
+pub kept-trans : {n own : ℕ} {words words′ words″ : List ℕ} → WordsKept n own words words′ → WordsKept n own words′ words″ → WordsKept n own words words″
 kept-trans a b =
     record { same-length = b .same-length ∙ a .same-length; same = λ j o. b .same j o ∙ a .same j o }
 
 -- a part of the list that holds none of the lists' words
-pub kept-part : {n own : ℕ} {words words′ : List ℕ} → Kept n own words words′ → (from size : ℕ)
+pub kept-part : {n own : ℕ} {words words′ : List ℕ} → WordsKept n own words words′ → (from size : ℕ)
     → ((j : ℕ) → from ≤ j → j < from + size → Other n own j)
     → take size (drop from words′) ≡ take size (drop from words)
 kept-part {n} {own} {words} {words′} k from size other =

@@ -1,11 +1,11 @@
 -- `budgets::size_check` meets its contract: its checks are put together two at a time. Assumes nothing.
 use Rattle.checks.proofs.Order.{one, both}
-use Rattle.budgets.specs.Budget.{sizeChecks}
+use Rattle.budgets.specs.Budget.{budgetChecks}
 use Rattle.budgets.proofs.size_check.Statement.{statement}
 use Rattle.budgets.proofs.size_check.Tie as tie
 
 returns : tie.Need-returns
-unfolding sizeChecks
+unfolding budgetChecks
 returns c =
     let up-to-9 = c .before .before in
     let up-to-2 = up-to-9 .before .before in

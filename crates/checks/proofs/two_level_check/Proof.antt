@@ -1,12 +1,12 @@
 -- `checks::two_level_check` meets its contract. Assumes nothing.
 use borrow.Author.Needs.{needs}
-use Rattle.checks.specs.Checks.{twoLevelChecks}
+use Rattle.checks.specs.Checks.{runChecks}
 use Rattle.checks.proofs.Order.{one, both}
 use Rattle.checks.proofs.two_level_check.Statement.{statement}
 use Rattle.checks.proofs.two_level_check.Tie as tie
 
 returns : tie.Need-returns
-unfolding twoLevelChecks
+unfolding runChecks
 returns c =
     both (record { is = c .before .before .before .before .map-check .ensures })
     (both (one (c .before .before .before .segments-check .ensures)) (record { is = c .before .before .run-lists-check .ensures })

@@ -9,7 +9,7 @@ use lib.Seq.{getD-set-same, getD-set-other, set-set}
 use native.Mathlib.Decide.{ℕ-discrete}
 use Rattle.bits.specs.Sets.{bitWords, summaryWords, In, Inhabited, BitSet, Room, Outside, Alike, Kept, Changed, Inserted, Taken}
 use Rattle.bits.specs.Sets.Laws.{zero-set, zero-none, alike-sym, alike-in, alike-set, alike-store, inserted-has, inserted-only, taken-has, taken-only}
-use Rattle.buckets.specs.Words.{places, heads, owned, Ours, Other, Fits}
+use Rattle.buckets.specs.Words.{places, heads, owned, Ours, Other, WordsFit}
 use Rattle.buckets.specs.Words.Laws.{places-length, place-word}
 use Rattle.buckets.specs.Links.{Linked, Moved}
 use Rattle.buckets.specs.Links.Laws.{linked-words, linked-zero, linked-mark, moved-here, moved-other, moved-again}
@@ -180,7 +180,7 @@ pub place-read : {n slots segments : ℕ} {w : List ℕ} → Frontier n slots se
 place-read {n} {w = w} F v h = sym (place-word n w v h)
 
 -- Words that are all 0: no node is labelled.
-pub frontier-zero : (n slots segments : ℕ) (w : List ℕ) → 1 ≤ n → n ≤ 4096 → Fits n slots segments (length w) → ((j : ℕ) → getD w j 0 ≡ 0)
+pub frontier-zero : (n slots segments : ℕ) (w : List ℕ) → 1 ≤ n → n ≤ 4096 → WordsFit n slots segments (length w) → ((j : ℕ) → getD w j 0 ≡ 0)
     → Frontier n slots segments w × (places n w ≡ replicate n 0)
 frontier-zero n slots segments w some few fits zero =
     let L = linked-zero n slots segments w fits (λ j o. zero j) in

@@ -29,7 +29,7 @@ returns c =
     let t = c .inserted .ensures in (
       λ X before roster h L.
           fresh-stands L (sym (place-is-read L) ∙ c .before .before .before .before .before .before .if1 .taken) (c .before .before .before .before .enter .ensures) (d .args .arc .0)
-          refl refl refl (t .0) (t .1) (t .2) (t .3),
+          refl refl refl t,
       refl,
     )
 
@@ -45,7 +45,7 @@ returns-2 c =
     let t = c .before .before .before .decreased .ensures in (
       λ X before roster h L.
           stays-stands L (λ e. c .before .before .before .before .if1 .left (place-is-read L ∙ e)) (rw (place-is-read L) at (c .before .stays .ensures (c .if2 .taken)))
-          (d .args .arc .0) refl refl refl (t .0) (t .1) (t .2) (t .3),
+          (d .args .arc .0) refl refl refl t,
       refl,
     )
 
@@ -75,7 +75,7 @@ returns-3 c =
     let t = c .before .before .before .before .before .before .before .before .before .before .before .before .decreased .ensures in (
       λ X before roster h L.
           held-stands L (λ e. c .before .before .before .before .before .before .before .before .before .before .before .before .before .if1 .left (place-is-read L ∙ e)) (c .before .before .before .before .before .before .before .leave-slot .ensures) (ap (λ (k : ℕ). k / 512) (place-is-read L))
-          (c .before .before .before .enter2 .ensures) (d .args .arc .0) refl refl refl (t .0) (t .1) (t .2) (t .3),
+          (c .before .before .before .enter2 .ensures) (d .args .arc .0) refl refl refl t,
       refl,
     )
 

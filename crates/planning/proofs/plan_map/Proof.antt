@@ -1,52 +1,84 @@
 -- `planning::plan_map` meets its contract. Assumes nothing.
-use Prim.Native.Nat.{_+_, _≤_}
 use native.Mathlib.Omega.{arith}
-use mathlib.Core.Path.{_≡_, refl, sym, _∙_, ap₂}
+use mathlib.Core.Path.{_≡_, refl, sym}
 use lib.ListN.{length}
 use lib.Seq.{length-take-le}
 use borrow.Author.Needs.{needs}
-use Rattle.fields.proofs.Written.{writes-same}
-use Rattle.checks.proofs.Valid.{one-level-passed}
-use Rattle.planning.specs.Planning.{runsText}
-use Rattle.runs.specs.Promise.{lent}
+use Rattle.checks.proofs.Valid.{passed-ready}
+use Rattle.runs.specs.Promise.{Lent, lent, lengthsOf}
 use Rattle.planning.proofs.Both.{both-run}
 use Rattle.planning.proofs.plan_map.Statement.{statement}
 use Rattle.planning.proofs.plan_map.Tie as tie
 
+-- The places that the answers name: the start, and both runs.
+abbrev start : tie.After-one-level → tie.Start
+start c = search needs
+
+abbrev one-of : tie.After-two-level → tie.After-one-level
+one-of c = search needs
+
+-- the lists at entry, and behind the one-level run
+module _ (c : tie.After-one-level) where
+  abbrev entry : Lent
+  entry = lent (start c .args .distances .now) (start c .args .parents .now) (start c .args .roster .now) (start c .args .work .now)
+
+  abbrev between : Lent
+  between =
+      let left = c .one-level .last .1 .1 .1 .1 .1 .1 in
+      lent (left .0) (left .1 .0) (left .1 .1 .0) (left .1 .1 .1 .0)
+
+  same-lengths : lengthsOf between ≡ lengthsOf entry
+  same-lengths =
+      let distances : length (between .distances) ≡ length (entry .distances) = omega (arith, c .one-level .kept) in
+      let parents : length (between .parents) ≡ length (entry .parents) = omega (arith, c .one-level .kept) in
+      let roster : length (between .roster) ≡ length (entry .roster) = omega (arith, c .one-level .kept) in
+      let work : length (between .work) ≡ length (entry .work) = omega (arith, c .one-level .kept) in
+      rw (distances, parents, roster, work) refl
+
 slice-aggregate-map-starts : tie.Need-slice-aggregate-map-starts
-slice-aggregate-map-starts c = sym (length-take-le _ _ (c .before .before .before .before .before .before .before .before .before .pre .0 .starts-fit))
+slice-aggregate-map-starts c = let s : tie.Start = search needs in sym (length-take-le _ _ (s .pre .0 .starts-fit))
 
 slice-aggregate-map-heads : tie.Need-slice-aggregate-map-heads
-slice-aggregate-map-heads c = sym (length-take-le _ _ (c .before .before .before .before .before .before .before .before .before .before .pre .0 .heads-fit))
+slice-aggregate-map-heads c = let s : tie.Start = search needs in sym (length-take-le _ _ (s .pre .0 .heads-fit))
 
 slice-aggregate-map-costs : tie.Need-slice-aggregate-map-costs
-slice-aggregate-map-costs c = sym (length-take-le _ _ (c .before .before .before .before .before .before .before .before .before .before .before .pre .0 .costs-fit))
+slice-aggregate-map-costs c = let s : tie.Start = search needs in sym (length-take-le _ _ (s .pre .0 .costs-fit))
 
 write-runs-requires : tie.Need-write-runs-requires
 write-runs-requires c κs =
-    let p = c .before .before .before .before .before .before .before .before .before .before .before .before .before .before .before .before .before .before .before .before .before .before .before .before .before .before .before .before .before .before .before .before .before .before .before .before .before .before .before .before .before .before .pre in
-    let fit = one-level-passed _ _ _ _ _ _ _ _ _ _ (p .0 .one-accepted) .1 in
-    (omega (arith, p .0 .nodes-fit, p .1), (omega (arith, fit .distances-fit, c .before .before .before .before .before .before .before .before .before .before .before .before .before .two-level .kept .1 .1 .1 .1 .1 .1 .1 .0 ∙ c .before .before .before .before .before .before .before .before .before .before .before .before .before .before .before .before .before .before .before .before .before .before .before .before .before .before .one-level .kept .1 .1 .1 .1 .1 .1 .0), omega (arith, fit .parents-fit, c .before .before .before .before .before .before .before .before .before .before .before .before .before .two-level .kept .1 .1 .1 .1 .1 .1 .1 .1 .0 ∙ c .before .before .before .before .before .before .before .before .before .before .before .before .before .before .before .before .before .before .before .before .before .before .before .before .before .before .one-level .kept .1 .1 .1 .1 .1 .1 .1 .0)))
+    let two : tie.After-two-level = search needs in
+    let one = one-of two in
+    let p = start one .pre in
+    let ready = passed-ready (p .0 .one-accepted) in (
+      omega (arith, p .0 .nodes-fit, p .1),
+      (
+        omega (arith, ready .distances-fit, two .two-level .kept, one .one-level .kept),
+        omega (arith, ready .parents-fit, two .two-level .kept, one .one-level .kept),
+      ),
+    )
 
 same-length : tie.Need-same-length
-same-length c = c .before .before .before .before .before .before .before .before .before .before .before .before .before .before .before .before .two-level .kept .1 .1 .1 .1 .1 .1 .1 .0 ∙ c .before .before .before .before .before .before .before .before .before .before .before .before .before .before .before .before .before .before .before .before .before .before .before .before .before .before .before .before .before .one-level .kept .1 .1 .1 .1 .1 .1 .0
+same-length c = let two : tie.After-two-level = search needs in omega (arith, two .two-level .kept, one-of two .one-level .kept)
 
 same-length-2 : tie.Need-same-length-2
-same-length-2 c = c .before .before .before .before .before .before .before .before .before .before .before .before .before .before .before .before .two-level .kept .1 .1 .1 .1 .1 .1 .1 .1 .0 ∙ c .before .before .before .before .before .before .before .before .before .before .before .before .before .before .before .before .before .before .before .before .before .before .before .before .before .before .before .before .before .one-level .kept .1 .1 .1 .1 .1 .1 .1 .0
+same-length-2 c = let two : tie.After-two-level = search needs in omega (arith, two .two-level .kept, one-of two .one-level .kept)
 
 same-length-3 : tie.Need-same-length-3
-same-length-3 c = c .before .before .before .before .before .before .before .before .before .before .before .before .before .before .before .before .two-level .kept .1 .1 .1 .1 .1 .1 .1 .1 .1 .0 ∙ c .before .before .before .before .before .before .before .before .before .before .before .before .before .before .before .before .before .before .before .before .before .before .before .before .before .before .before .before .before .one-level .kept .1 .1 .1 .1 .1 .1 .1 .1 .0
+same-length-3 c = let two : tie.After-two-level = search needs in omega (arith, two .two-level .kept, one-of two .one-level .kept)
 
 same-length-4 : tie.Need-same-length-4
-same-length-4 c = c .before .before .before .before .before .before .before .before .before .before .before .before .before .before .before .before .two-level .kept .1 .1 .1 .1 .1 .1 .1 .1 .1 .1 .0 ∙ c .before .before .before .before .before .before .before .before .before .before .before .before .before .before .before .before .before .before .before .before .before .before .before .before .before .before .before .before .before .one-level .kept .1 .1 .1 .1 .1 .1 .1 .1 .1 .0
+same-length-4 c = let two : tie.After-two-level = search needs in omega (arith, two .two-level .kept, one-of two .one-level .kept)
 
 returns : tie.Need-returns
 returns c =
-    let one = c .before .before .before .before .before .before .before .before .before .before .before .before .before .before .before .before .before .before .before .before .before .before .before .before .before .before .before .before .before .one-level in
-    let two = c .before .before .before .before .before .before .before .before .before .before .before .before .before .before .before .before .two-level in
-    let between = lent (one .last .1 .1 .1 .1 .1 .1 .0) (one .last .1 .1 .1 .1 .1 .1 .1 .0) (one .last .1 .1 .1 .1 .1 .1 .1 .1 .0) (one .last .1 .1 .1 .1 .1 .1 .1 .1 .1 .0) in
-    both-run _ _ _ _ _ _ _ between (c .before .before .before .before .before .before .before .before .before .before .before .before .before .before .before .before .before .before .before .before .before .before .before .before .before .before .before .before .before .before .before .before .before .before .before .before .before .before .before .before .before .before .before .before .before .pre .0) (one .kept .1 .1 .1 .1 .1 .1 .0) (one .kept .1 .1 .1 .1 .1 .1 .1 .0) (one .kept .1 .1 .1 .1 .1 .1 .1 .1 .0) (one .kept .1 .1 .1 .1 .1 .1 .1 .1 .1 .0) (one .ensures) (two .ensures)
-    (c .before .before .before .before .before .before .numbers-of .ensures) (c .before .before .before .before .before .numbers-of2 .ensures) (c .before .before .write-runs .ensures)
+    let r : tie.After-two-level = search needs in
+    let one = one-of r in
+    let runnable = start one .pre .0 in
+    let first : tie.After-numbers-of = search needs in
+    let second : tie.After-numbers-of2 = search needs in
+    let written : tie.After-write-runs = search needs in
+    both-run _ _ _ _ _ (between one) (runnable .one-accepted) (runnable .two-accepted) (same-lengths one) (one .one-level .ensures) (r .two-level .ensures)
+    (first .numbers-of .ensures) (second .numbers-of2 .ensures) (written .write-runs .ensures)
 
 pub plan-map-spec : {M : Type 1} → statement M
 plan-map-spec =

@@ -1,6 +1,6 @@
 -- `removal::remove_current` meets its contract.
 use native.Mathlib.Omega.{arith}
-use mathlib.Core.Path.{_≡_, refl}
+use mathlib.Core.Path.{refl}
 use Rattle.removal.proofs.Counts.{reached-low, roster-long, nodes-few, looks-few, looks-most}
 use Rattle.removal.proofs.Current.{current-node, under, within, segment-is, current-removal}
 use borrow.Author.Needs.{needs}
@@ -8,34 +8,41 @@ use Rattle.removal.proofs.remove_current.Statement.{statement}
 use Rattle.removal.proofs.remove_current.Tie as tie
 
 current-segment-requires : tie.Need-current-segment-requires
-current-segment-requires c κs = let p = c .before .before .before .before .before .pre in (under (p .0 .rests) (p .1), within (p .0 .rests) (p .1))
+current-segment-requires c κs = let s : tie.Start = search needs in (under (s .pre .0 .rests) (s .pre .1), within (s .pre .0 .rests) (s .pre .1))
 
 looks-of-requires : tie.Need-looks-of-requires
-looks-of-requires c κs =
-    let p = c .before .before .before .before .before .before .pre in
-    (omega arith, omega (arith, c .current-segment .ensures, p .0 .setting .agrees .most))
+looks-of-requires c κs = let s : tie.Start = search needs in (omega arith, omega (arith, c .current-segment .ensures, s .pre .0 .setting .agrees .most))
 
 take-current-requires : tie.Need-take-current-requires
-take-current-requires c κs = let p = c .before .before .before .before .before .before .before .before .pre in (p .0 .rests .stands .frontier, current-node (p .0 .rests) (p .1))
+take-current-requires c κs = let s : tie.Start = search needs in (s .pre .0 .rests .stands .frontier, current-node (s .pre .0 .rests) (s .pre .1))
 
 slice-write-roster : tie.Need-slice-write-roster
-slice-write-roster c = let R = c .before .before .before .before .before .before .before .before .before .before .before .before .pre .0 .rests in omega (arith, reached-low R, roster-long R)
+slice-write-roster c = let s : tie.Start = search needs in omega (arith, reached-low (s .pre .0 .rests), roster-long (s .pre .0 .rests))
 
-add-t22 : tie.Need-add-t22
-add-t22 c = let R = c .before .before .before .before .before .before .before .before .before .before .before .before .before .before .pre .0 .rests in omega (arith, reached-low R, nodes-few R)
+add-reached : tie.Need-add-t22
+add-reached c = let s : tie.Start = search needs in omega (arith, reached-low (s .pre .0 .rests), nodes-few (s .pre .0 .rests))
+
+-- The segment of the current key, and the looks.
+abbrev segment : tie.After-looks-of → tie.After-current-segment
+segment c = search needs
+
+abbrev start : tie.After-current-segment → tie.Start
+start c = search needs
 
 looked-requires : tie.Need-looked-requires
 looked-requires c κs =
-    let p = c .before .before .before .before .before .before .before .before .before .before .before .before .before .before .pre in
-    let a = c .before .before .before .before .before .before .before .before .current-segment in
-    omega (arith, looks-few (p .0 .rests), c .before .before .before .before .before .before .before .looks-of .ensures, looks-most (c .before .before .before .before .before .before .before .before .before .before .before .before .before .before .args .layout .segments) 1 (a .result), a .ensures, p .0 .setting .agrees .most)
+    let told : tie.After-looks-of = search needs in
+    let g = segment told in
+    let s = start g in
+    omega (arith, looks-few (s .pre .0 .rests), told .looks-of .ensures, looks-most (s .args .layout .segments) 1 (g .current-segment .result), g .current-segment .ensures, s .pre .0 .setting .agrees .most)
 
 returns : tie.Need-returns
 returns c X before parents h R =
-    let t = c .looked .ensures in
-    let some = c .before .before .before .before .before .before .before .before .before .before .before .before .before .before .before .pre .1 in
-    current-removal R some (c .before .before .before .before .before .before .take-current .ensures) refl (omega arith) refl (t .0) (t .1) (t .2)
-    (cc (t .3, c .before .before .before .before .before .before .before .before .looks-of .ensures, c .before .before .before .before .before .before .before .before .before .current-segment .ensures, segment-is R some))
+    let taken : tie.After-take-current = search needs in
+    let told : tie.After-looks-of = search needs in
+    let some = start (segment told) .pre .1 in
+    current-removal R some (taken .take-current .ensures) refl (omega arith) refl
+    (c .looked .ensures) (cc (told .looks-of .ensures, segment told .current-segment .ensures, segment-is R some))
 
 pub remove-current-spec : {M : Type 1} → statement M
 remove-current-spec =
@@ -52,7 +59,7 @@ remove-current-spec =
     (λ c. search needs)
     slice-write-roster
     (λ c. search needs)
-    add-t22
+    add-reached
     looked-requires
     (λ c. search needs)
     (λ c. search needs)

@@ -12,8 +12,7 @@ use Rattle.theory.specs.Network.{Network}
 use Rattle.theory.specs.Search.{Mark, unlabelled, labelled, scanned, mark, asLabelled, label}
 use Rattle.theory.specs.Shape.{Shape}
 use Rattle.theory.specs.Heap.{Heap, bound, bucketOf, keyOf, bucketFor, heapLabel}
-use Rattle.theory.proofs.Heap.Invariant.{HeapInv}
-use Rattle.theory.proofs.Heap.Label.{Labelling}
+use Rattle.theory.specs.Invariants.{HeapInv, Labelling}
 use Rattle.state.specs.Places.{wordOf, placeOf}
 
 -- The place word of a node whose mark, bucket and key are known.

@@ -16,14 +16,13 @@ use Rattle.theory.specs.Shape.{Shape}
 use Rattle.theory.specs.Heap.{Heap, bound, bucketOf, keyOf, bucketFrom, segmentOf, shifts?, moveMarked, moveLabelled, move, heapRemove}
 use Rattle.theory.proofs.Cases.{split, same?, labelled≢scanned, labelled≢unlabelled, mark-cases}
 use Rattle.theory.proofs.Sums.{sum-same, sum-zero}
-use Rattle.theory.proofs.Search.Nearest.{Labelled, Least}
-use Rattle.theory.proofs.Search.Invariant.{AtRest, labelled-node}
+use Rattle.theory.specs.Lawful.{Lawful}
+use Rattle.theory.specs.Invariants.{Labelled, Least, AtRest, Fits, seg, after, HeapInv}
+use Rattle.theory.proofs.Search.Invariant.{labelled-node}
 use Rattle.theory.proofs.Search.Scanning.{remove-here, remove-other}
-use Rattle.theory.proofs.Heap.Laws.{Lawful}
 use Rattle.theory.proofs.Heap.Bounds.{after-same}
-use Rattle.theory.proofs.Heap.Buckets.{Fits, fits-order}
-use Rattle.theory.proofs.Heap.Shift.{seg, after}
-use Rattle.theory.proofs.Heap.Invariant.{HeapInv, first-keys}
+use Rattle.theory.proofs.Heap.Buckets.{fits-order}
+use Rattle.theory.proofs.Heap.Invariant.{first-keys}
 use Rattle.theory.proofs.Heap.Remove.{Shifts, shifts-true, shifts-false, move-labelled, removed-bucket}
 use Rattle.state.specs.Places.{wordOf, placeOf, isWord}
 use Rattle.state.proofs.Places.Label.{place-is}

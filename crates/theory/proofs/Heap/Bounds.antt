@@ -5,21 +5,14 @@ use mathlib.Core.Path.{_≡_, refl, _∙_}
 use mathlib.Core.Logic.{inl, inr}
 use mathlib.Core.List.{List, _∷_}
 use lib.ListN.{length, set, length-set}
-use lib.Seq.{getD-set-same, getD-set-other}
+use lib.Seq.{getD-set-same}
 use Rattle.theory.specs.Shape.{Shape}
 use Rattle.theory.specs.Heap.{bound, rebound, boundsAfter, boundsFrom, firstBounds}
 use Rattle.theory.proofs.Cases.{split}
 use Rattle.theory.proofs.Heap.Rebound.{boundsFrom-length, rebound-length, rebound-before, rebound-after}
-use Rattle.theory.proofs.Heap.Laws.{total, total-mono, Lawful}
-
--- Sound bounds, when the last node scanned had distance `last`.
-pub record Bounds (sh : Shape) (last : ℕ) (u : List ℕ) : Type 0 where
-  pub long : length u ≡ suc (sh .buckets)
-  pub top : bound u (sh .buckets) ≡ sh .top
-  pub rise : (i k : ℕ) → 1 ≤ i → i ≤ k → k ≤ sh .buckets → bound u i ≤ bound u k
-  pub range : (i : ℕ) → 1 ≤ i → suc i < sh .buckets → bound u (suc i) ≤ bound u i + sh .size (suc i)
-  pub first : bound u 1 < last + sh .size 1
-  pub reach : last ≤ bound u 1
+use Rattle.theory.proofs.Heap.Laws.{total-mono}
+use Rattle.theory.specs.Lawful.{total, Lawful}
+use Rattle.theory.specs.Invariants.{Bounds}
 
 -- The first bounds: u(p) = min(size(1) + .. + size(p) - 1, u(B)).
 module _ (sh : Shape) where

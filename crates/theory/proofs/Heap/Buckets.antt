@@ -10,14 +10,7 @@ use borrow.Author.Tests.{ltb-true, ltb-false}
 use Rattle.theory.specs.Shape.{Shape}
 use Rattle.theory.specs.Heap.{bound, bucketFrom}
 use Rattle.theory.proofs.Cases.{split}
-use Rattle.theory.proofs.Heap.Bounds.{Bounds}
-
--- Key x is rightly in bucket b: it is at most u(b), and above the bounds before.
-pub record Fits (sh : Shape) (u : List ℕ) (b x : ℕ) : Type 0 where
-  pub low : 1 ≤ b
-  pub high : b ≤ sh .buckets
-  pub under : x ≤ bound u b
-  pub over : (p : ℕ) → 1 ≤ p → p < b → bound u p < x
+use Rattle.theory.specs.Invariants.{Bounds, Fits}
 
 -- What the search for a bucket from i down finds.
 record Found (u : List ℕ) (x i b : ℕ) : Type 0 where

@@ -1,43 +1,23 @@
 -- The counts. A labelled node may still be shifted once for each bucket below its own: these, summed, are the potential.
-use Prim.Native.Nat.{ℕ, suc, _+_, _-_, _*_, _≤_, _<_}
+use Prim.Native.Nat.{ℕ, _+_, _-_, _*_, _≤_, _<_}
 use native.Mathlib.Omega.{arith}
 use mathlib.Core.Path.{_≡_, refl, ap}
 use mathlib.Core.Bool.{Bool, true, false}
-use mathlib.Core.Logic.{inl, inr, _≢_, ⊎-elim}
-use mathlib.Core.List.{List}
+use mathlib.Core.Logic.{_≢_, ⊎-elim}
 use lib.ListN.{length, length-append}
 use lib.Seq.{getD-set-same, getD-set-other}
 use Rattle.theory.specs.Sums.{sumBelow}
 use Rattle.theory.specs.Network.{Network}
 use Rattle.theory.specs.Shape.{Shape}
 use Rattle.theory.specs.Search.{Mark, unlabelled, labelled, scanned, mark, asLabelled, inserted, label, remove}
-use Rattle.theory.specs.Heap.{Heap, bound, bucketOf, keyOf, bucketFrom, searchStart, bucketFor, segmentOf, shifts?, moveLabelled, moveMarked, move, heapLabel, heapRemove}
-use Rattle.theory.proofs.Cases.{same?, labelled≢scanned}
+use Rattle.theory.specs.Heap.{Heap, bound, bucketOf, keyOf, bucketFrom, searchStart, bucketFor, segmentOf, shifts?, moveMarked, move, heapLabel, heapRemove}
+use Rattle.theory.proofs.Cases.{same?}
 use Rattle.theory.proofs.Sums.{sum-change, sum-add, sum-mono}
-use Rattle.theory.proofs.Search.Nearest.{Labelled, Least}
-use Rattle.theory.proofs.Search.Invariant.{AtRest}
+use Rattle.theory.specs.Lawful.{Lawful}
+use Rattle.theory.specs.Invariants.{Least, AtRest, Fits, seg, after, HeapInv, Labelling, weight, weightOf, potential, Counted}
 use Rattle.theory.proofs.Search.Scanning.{remove-here, remove-other}
-use Rattle.theory.proofs.Heap.Laws.{Lawful}
-use Rattle.theory.proofs.Heap.Buckets.{Fits}
-use Rattle.theory.proofs.Heap.Shift.{seg, after}
-use Rattle.theory.proofs.Heap.Invariant.{HeapInv}
 use Rattle.theory.proofs.Heap.Remove.{Shifts, shifts-true, falls, removed-bucket}
-use Rattle.theory.proofs.Heap.Label.{Labelling, put}
-
-abbrev pub weight : Mark → ℕ → ℕ
-weight unlabelled b = 0
-weight labelled b = b - 1
-weight scanned b = 0
-
-abbrev pub weightOf : Heap → ℕ → ℕ
-weightOf h v = weight (mark (h .search) v) (bucketOf h v)
-
-abbrev pub potential : Network → Heap → ℕ
-potential N h = sumBelow (N .nodes) (weightOf h)
-
-pub record Counted (N : Network) (sh : Shape) (S : ℕ) (h : Heap) : Type 0 where
-  pub shifts : potential N h + h .shifts + h .search .insertions ≤ h .search .insertions * sh .buckets
-  pub looks : h .looks ≤ length (h .search .roster) * (sh .buckets + S)
+use Rattle.theory.proofs.Heap.Label.{put}
 
 -- An insertion or a decrease.
 module _ {N : Network} {sh : Shape} {C S : ℕ} (law : Lawful sh C S) {last : ℕ} {h : Heap} (inv : HeapInv N sh last h) (c : Counted N sh S h)

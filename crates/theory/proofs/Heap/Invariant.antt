@@ -5,7 +5,6 @@ use mathlib.Core.Path.{_≡_, refl, sym}
 use mathlib.Core.Bool.{Bool, true, false, cond}
 use mathlib.Core.Logic.{inl, inr}
 use mathlib.Core.List.{List}
-use lib.ListN.{length}
 use lib.Dec.{ltb}
 use borrow.Author.Tests.{lt-ltb, le-ltb, eq-eqb, ne-eqb}
 use Rattle.theory.specs.Network.{Network}
@@ -13,18 +12,10 @@ use Rattle.theory.specs.Shape.{Shape}
 use Rattle.theory.specs.Search.{Mark, unlabelled, labelled, scanned, mark, Choice, chosen, nearer, consider, nearest}
 use Rattle.theory.specs.Heap.{Heap, bound, bucketOf, keyOf, Pick, nothing, picked, lower, lowest, considerPick, segmentOf, pick}
 use Rattle.theory.proofs.Cases.{split}
-use Rattle.theory.proofs.Search.Nearest.{Labelled, Least, Right, nearest-right}
-use Rattle.theory.proofs.Search.Invariant.{AtRest}
-use Rattle.theory.proofs.Heap.Laws.{Lawful}
-use Rattle.theory.proofs.Heap.Bounds.{Bounds}
-use Rattle.theory.proofs.Heap.Buckets.{Fits, late-range}
-use Rattle.theory.proofs.Heap.Shift.{seg}
-
--- When the last node scanned had distance `last`: the bounds are sound, and every labelled node stands where its key fits.
-pub record HeapInv (N : Network) (sh : Shape) (last : ℕ) (h : Heap) : Type 0 where
-  pub bounds : Bounds sh last (h .bounds)
-  pub buckets : length (h .buckets) ≡ N .nodes
-  pub fits : (v : ℕ) → Labelled (h .search) v → Fits sh (h .bounds) (bucketOf h v) (keyOf h v)
+use Rattle.theory.proofs.Search.Nearest.{Right, nearest-right}
+use Rattle.theory.specs.Lawful.{Lawful}
+use Rattle.theory.specs.Invariants.{Labelled, Least, AtRest, Fits, seg, HeapInv}
+use Rattle.theory.proofs.Heap.Buckets.{late-range}
 
 lower-is : (a b : ℕ) (t r : Bool) → (a < b → r ≡ true) → (b < a → r ≡ false) → (a ≡ b → t ≡ r) → lower a b t ≡ r
 lower-is a b t r less more same = elim (split a b) [

@@ -1,31 +1,21 @@
 -- An insertion or a decrease keeps the invariant, and a decrease never raises the bucket.
-use Prim.Native.Nat.{ℕ, _+_, _≤_, _<_}
+use Prim.Native.Nat.{ℕ, _+_, _≤_}
 use native.Mathlib.Omega.{arith}
-use mathlib.Core.Path.{_≡_, refl, sym, _∙_}
+use mathlib.Core.Path.{_≡_, refl, _∙_}
 use mathlib.Core.Bool.{Bool, true, false, cond}
-use mathlib.Core.Logic.{_⊎_, inl, inr, _≢_}
+use mathlib.Core.Logic.{inl, inr, _≢_}
 use mathlib.Core.List.{List, [], _∷_}
-use lib.ListN.{length, length-set}
+use lib.ListN.{length-set}
 use lib.Seq.{getD-set-same, getD-set-other}
 use borrow.Author.Tests.{ltb-true}
 use Rattle.theory.specs.Network.{Link, Network}
 use Rattle.theory.specs.Shape.{Shape}
-use Rattle.theory.specs.Search.{Mark, unlabelled, labelled, scanned, mark, distance, below, improves, asLabelled, label, relax, relaxAll}
+use Rattle.theory.specs.Search.{Mark, unlabelled, labelled, scanned, mark, below, improves, asLabelled, label, relax, relaxAll}
 use Rattle.theory.specs.Heap.{Heap, bucketOf, keyOf, bucketFrom, searchStart, bucketFor, heapLabel, heapRelax, heapRelaxAll}
 use Rattle.theory.proofs.Cases.{same?}
-use Rattle.theory.proofs.Search.Nearest.{Labelled}
-use Rattle.theory.proofs.Heap.Laws.{Lawful}
-use Rattle.theory.proofs.Heap.Buckets.{Fits, bucket-fits}
-use Rattle.theory.proofs.Heap.Invariant.{HeapInv}
-
--- Node v, which is not scanned, gets key x, below its own and at most the last bound.
-pub record Labelling (N : Network) (sh : Shape) (h : Heap) (v x : ℕ) : Type 0 where
-  pub node : v < N .nodes
-  pub marks : length (h .search .marks) ≡ N .nodes
-  pub distances : length (h .search .distances) ≡ N .nodes
-  pub unscanned : mark (h .search) v ≢ scanned
-  pub top : x ≤ sh .top
-  pub less : below (mark (h .search) v) x (keyOf h v) ≡ true
+use Rattle.theory.specs.Lawful.{Lawful}
+use Rattle.theory.specs.Invariants.{Fits, HeapInv, Labelling}
+use Rattle.theory.proofs.Heap.Buckets.{bucket-fits}
 
 module _ {N : Network} {sh : Shape} {C S : ℕ} (law : Lawful sh C S) {last : ℕ} {h : Heap} (inv : HeapInv N sh last h) {v x : ℕ} (lab : Labelling N sh h v x) where
   -- The key is put where it fits, and no higher than where the search for its bucket starts.

@@ -8,12 +8,10 @@ use Rattle.theory.specs.Shape.{Shape}
 use Rattle.theory.specs.Search.{Choice}
 use Rattle.theory.specs.Heap.{Heap, bound, bucketOf, keyOf, Pick, nothing, picked, pick}
 use Rattle.theory.proofs.Cases.{differ}
-use Rattle.theory.proofs.Search.Nearest.{Labelled, Least}
-use Rattle.theory.proofs.Search.Invariant.{AtRest}
-use Rattle.theory.proofs.Heap.Laws.{Lawful}
-use Rattle.theory.proofs.Heap.Buckets.{Fits, fits-order}
-use Rattle.theory.proofs.Heap.Shift.{seg}
-use Rattle.theory.proofs.Heap.Invariant.{HeapInv, Choose, idle, takes, chooses}
+use Rattle.theory.specs.Lawful.{Lawful}
+use Rattle.theory.specs.Invariants.{Labelled, Least, AtRest, Fits, seg, HeapInv}
+use Rattle.theory.proofs.Heap.Buckets.{fits-order}
+use Rattle.theory.proofs.Heap.Invariant.{Choose, idle, takes, chooses}
 
 -- Bucket j is the lowest that is not empty, k its lowest segment that is not empty, d the smallest key there, and v the
 -- smallest number of a node there with key d.

@@ -1,26 +1,24 @@
 -- A removal keeps the invariant; every shift goes to a strictly lower bucket, also from the last one.
-use Prim.Native.Nat.{ℕ, _+_, _≤_, _<_}
+use Prim.Native.Nat.{ℕ, _≤_, _<_}
 use native.Mathlib.Omega.{arith}
-use mathlib.Core.Path.{_≡_, refl, sym, _∙_, ap}
-use mathlib.Core.Bool.{Bool, true, false, not, _&&_}
-use mathlib.Core.Logic.{inl, inr, _≢_, ⊎-elim}
+use mathlib.Core.Path.{_≡_, refl, sym, _∙_}
+use mathlib.Core.Bool.{Bool, true, false, _&&_}
+use mathlib.Core.Logic.{_≢_, ⊎-elim}
 use mathlib.Core.List.{List}
 use lib.ListN.{length}
 use lib.Dec.{ltb, eqb}
 use borrow.Author.Tests.{ltb-true, eqb-true, eqb-false, lt-ltb, eq-eqb, ne-eqb, not-true}
 use Rattle.theory.specs.Network.{Network}
 use Rattle.theory.specs.Shape.{Shape}
-use Rattle.theory.specs.Search.{labelled, scanned, mark, remove}
+use Rattle.theory.specs.Search.{labelled, scanned, remove}
 use Rattle.theory.specs.Heap.{Heap, bucketOf, keyOf, bucketFrom, segmentOf, shifts?, moveLabelled, move, heapRemove}
 use Rattle.theory.proofs.Cases.{differ, same?, labelled≢scanned}
 use Rattle.theory.proofs.Sums.{length-listBelow, getD-listBelow}
-use Rattle.theory.proofs.Search.Nearest.{Labelled, Least}
-use Rattle.theory.proofs.Search.Invariant.{AtRest, labelled-node}
+use Rattle.theory.specs.Lawful.{Lawful}
+use Rattle.theory.specs.Invariants.{Labelled, Least, AtRest, Fits, seg, after, HeapInv}
+use Rattle.theory.proofs.Search.Invariant.{labelled-node}
 use Rattle.theory.proofs.Search.Scanning.{remove-here, remove-other}
-use Rattle.theory.proofs.Heap.Laws.{Lawful}
-use Rattle.theory.proofs.Heap.Buckets.{Fits}
-use Rattle.theory.proofs.Heap.Shift.{seg, after, bounds-after, shift-fits, stay-fits}
-use Rattle.theory.proofs.Heap.Invariant.{HeapInv}
+use Rattle.theory.proofs.Heap.Shift.{bounds-after, shift-fits, stay-fits}
 
 -- Who is shifted: the nodes of segment k of bucket j but for w, where j is not 1.
 pub record Shifts (j k w v b l : ℕ) : Type 0 where

@@ -1,46 +1,30 @@
 -- The heap's search is the search with no heap, the heap ends, and its counts are bounded.
-use Prim.Native.Nat.{ℕ, zero, suc, _+_, _*_, _≤_, _<_}
+use Prim.Native.Nat.{ℕ, zero, suc, _+_, _*_, _≤_}
 use native.Mathlib.Omega.{arith}
 use mathlib.Core.Path.{_≡_, refl, sym, _∙_}
 use mathlib.Core.Bool.{Bool, true, false, cond}
 use mathlib.Core.Logic.{_≢_}
 use mathlib.Core.List.{List, [], _∷_, List·Memᴰ, List·Memᴰ·head, List·Memᴰ·tail}
 use lib.ListN.{length, length-replicate}
-use Rattle.theory.specs.Sums.{sumBelow}
 use Rattle.theory.specs.Maps.{none}
 use Rattle.theory.specs.Network.{Link, Network, Admissible}
 use Rattle.theory.specs.Shape.{Shape}
-use Rattle.theory.specs.Search.{unlabelled, scanned, Search, mark, improves, Choice, chosen, nearest, scan, blank, start, searchFrom, search}
+use Rattle.theory.specs.Search.{unlabelled, scanned, Search, improves, Choice, chosen, scan, blank, start, searchFrom, search}
 use Rattle.theory.specs.Heap.{Heap, Pick, nothing, picked, pick, heapLabel, heapRelax, heapRelaxAll, heapRemove, heapScan, heapFrom, heapBlank, heapStart, heap, placements}
 use Rattle.theory.proofs.Cases.{scanned≢unlabelled, differ}
 use Rattle.theory.proofs.Sums.{sum-zero}
-use Rattle.theory.proofs.Search.Nearest.{Labelled, Least}
-use Rattle.theory.proofs.Search.Invariant.{AtRest, Scanning}
+use Rattle.theory.specs.Lawful.{Lawful}
+use Rattle.theory.specs.Invariants.{Least, Scanning, Fits, seg, HeapInv, Labelling, weightOf, Counted, Resting, Relaxing}
 use Rattle.theory.proofs.Search.Relaxing.{head-node, sum-few, relax-kept, improves-open}
 use Rattle.theory.proofs.Search.Scanning.{remove-kept, scan-over}
 use Rattle.theory.proofs.Search.Ends.{blank-mark, start-kept, search-ends}
 use Rattle.theory.proofs.Search.Counts.{search-counted}
-use Rattle.theory.proofs.Heap.Laws.{Lawful}
 use Rattle.theory.proofs.Heap.Bounds.{bounds-first}
-use Rattle.theory.proofs.Heap.Buckets.{Fits}
-use Rattle.theory.proofs.Heap.Shift.{seg}
-use Rattle.theory.proofs.Heap.Invariant.{HeapInv, Choose, idle, takes, chooses}
+use Rattle.theory.proofs.Heap.Invariant.{Choose, idle, takes, chooses}
 use Rattle.theory.proofs.Heap.Pick.{pick-nothing}
 use Rattle.theory.proofs.Heap.Remove.{inv-remove}
-use Rattle.theory.proofs.Heap.Label.{Labelling, inv-label, relax-search, relaxAll-search}
-use Rattle.theory.proofs.Heap.Count.{weightOf, Counted, count-label, count-remove}
-
--- A heap between two removals, when the last node scanned had distance `last`.
-pub record Resting (N : Network) (sh : Shape) (C S last : ℕ) (h : Heap) : Type 0 where
-  pub rest : AtRest N C last (h .search)
-  pub inv : HeapInv N sh last h
-  pub counted : Counted N sh S h
-
--- A heap in the scan of u, at distance d, with the links ls left to relax.
-pub record Relaxing (N : Network) (sh : Shape) (C S u d : ℕ) (ls : List Link) (h : Heap) : Type 0 where
-  pub scanning : Scanning N C u d ls (h .search)
-  pub inv : HeapInv N sh d h
-  pub counted : Counted N sh S h
+use Rattle.theory.proofs.Heap.Label.{inv-label, relax-search, relaxAll-search}
+use Rattle.theory.proofs.Heap.Count.{count-label, count-remove}
 
 module _ {N : Network} {sh : Shape} {C S m : ℕ} (A : Admissible N C m) (law : Lawful sh C S) (room : N .nodes * C ≤ sh .top) where
   -- A link whose head improves is a labelling.

@@ -6,21 +6,13 @@ use mathlib.Core.Path.{_≡_, refl, _∙_}
 use mathlib.Core.Logic.{inl, inr}
 use mathlib.Core.List.{List}
 use Rattle.theory.specs.Shape.{Shape}
-use Rattle.theory.specs.Heap.{bound, bucketFrom, boundsAfter}
+use Rattle.theory.specs.Heap.{bound, bucketFrom}
 use Rattle.theory.proofs.Cases.{split}
-use Rattle.theory.proofs.Heap.Laws.{total, total-mono, Lawful}
-use Rattle.theory.proofs.Heap.Bounds.{Bounds, after-length, after-same, after-at}
-use Rattle.theory.proofs.Heap.Buckets.{Fits, bucket-fits, fits-range, fits-order}
-
--- The segment of key x in bucket j, its upper end, and the bounds after a removal with smallest key d there.
-abbrev pub seg : Shape → List ℕ → ℕ → ℕ → ℕ
-seg sh u j x = sh .segment j (bound u j) x
-
-abbrev pub segEnd : Shape → List ℕ → ℕ → ℕ → ℕ
-segEnd sh u j d = sh .end j (bound u j) (seg sh u j d)
-
-abbrev pub after : Shape → List ℕ → ℕ → ℕ → List ℕ
-after sh u j d = boundsAfter sh j (seg sh u j d) d u
+use Rattle.theory.proofs.Heap.Laws.{total-mono}
+use Rattle.theory.specs.Lawful.{total, Lawful}
+use Rattle.theory.specs.Invariants.{Bounds, Fits, seg, segEnd, after}
+use Rattle.theory.proofs.Heap.Bounds.{after-length, after-same, after-at}
+use Rattle.theory.proofs.Heap.Buckets.{bucket-fits, fits-range, fits-order}
 
 module _ {sh : Shape} {C S : ℕ} (law : Lawful sh C S) {last : ℕ} {u : List ℕ} (B : Bounds sh last u) {j d : ℕ} (fit : Fits sh u j d) (late : last ≤ d) where
   -- A key of d's segment is at most the segment's end.

@@ -6,7 +6,7 @@ use mathlib.Core.List.{List, [], _∷_, _++_}
 use native.Mathlib.Omega.{arith}
 use native.Mathlib.Nat.{add-zero}
 use lib.ListN.{length}
-use Rattle.theory.specs.Maps.{Map, arcs, headOf, costOf, Leaves, Route, routeCost, SpelledRoute, parentOf, Valid}
+use Rattle.theory.specs.Maps.{Map, headOf, costOf, Leaves, Route, routeCost, SpelledRoute, parentOf, Valid}
 use Rattle.theory.specs.Network.{Link, network, Path, SpelledPath}
 use Rattle.theory.proofs.Lists.{inside}
 use Rattle.theory.proofs.Maps.Arcs.{linkOf, out-leaves, leaves-out, leaves-arc, leaves-once}

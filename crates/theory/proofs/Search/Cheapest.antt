@@ -1,10 +1,9 @@
 -- Demand 2 over paths: the distances of a search are the costs of cheapest paths, and its parents spell such paths.
-use Prim.Native.Nat.{ℕ, _≤_, _<_}
+use Prim.Native.Nat.{ℕ, _≤_}
 use mathlib.Core.Path.{_≡_, sym, _∙_}
 use mathlib.Core.Logic.{_≢_, _⊎_, inl, inr, ⊎-elim}
 use mathlib.Core.List.{List}
 use native.Mathlib.Omega.{arith}
-use Rattle.theory.specs.Maps.{none}
 use Rattle.theory.specs.Network.{Network, Path, SpelledPath, Admissible}
 use Rattle.theory.specs.Search.{Mark, unlabelled, scanned, Search, mark, distance, search}
 use Rattle.theory.specs.Demands.{CheapestPaths}

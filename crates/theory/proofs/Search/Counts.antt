@@ -1,16 +1,16 @@
 -- What is counted of a search: its roster lists each reached node once, by nondecreasing distance; each of them is inserted
 -- once; and the decreases are at most m + 1 - r, for r reached nodes and m arcs.
-use Prim.Native.Nat.{ℕ, suc, _+_, _≤_}
+use Prim.Native.Nat.{ℕ, _+_, _≤_}
 use mathlib.Core.Path.{_≡_, refl}
 use mathlib.Core.Logic.{_≢_}
 use native.Mathlib.Omega.{arith}
 use lib.ListN.{length}
-use Rattle.theory.specs.Sums.{sumBelow}
 use Rattle.theory.specs.Network.{Network, Path, Admissible}
 use Rattle.theory.specs.Search.{Mark, unlabelled, labelled, scanned, Search, mark, distance, search}
 use Rattle.theory.specs.Demands.{Roster}
 use Rattle.theory.proofs.Sums.{sum-same, sum-mono}
-use Rattle.theory.proofs.Search.Invariant.{scans, known, linksOf, scans-few}
+use Rattle.theory.proofs.Search.Invariant.{scans-few}
+use Rattle.theory.specs.Invariants.{scans, known, linksOf}
 use Rattle.theory.proofs.Search.Ends.{Ended, search-ends}
 use Rattle.theory.proofs.Search.Cheapest.{path-scanned, scanned-path}
 

@@ -1,8 +1,8 @@
 -- A search starts with its invariant, keeps it, and ends with no node labelled.
-use Prim.Native.Nat.{ℕ, zero, suc, _+_, _*_, _≤_, _<_}
+use Prim.Native.Nat.{ℕ, zero, suc, _+_, _*_, _≤_}
 use mathlib.Core.Path.{_≡_, refl, sym, _∙_, ap}
 use mathlib.Core.Logic.{_≢_}
-use mathlib.Core.List.{List, [], _∷_, List·Memᴰ·not-nil}
+use mathlib.Core.List.{[], _∷_, List·Memᴰ·not-nil}
 use native.Mathlib.Omega.{arith}
 use lib.ListN.{length, length-set, length-replicate, length-append}
 use Rattle.theory.specs.Sums.{sumBelow}
@@ -12,8 +12,9 @@ use Rattle.theory.specs.Search.{Mark, unlabelled, labelled, scanned, Sea
 use Rattle.theory.proofs.Cases.{labelled≢scanned, labelled≢unlabelled, scanned≢unlabelled}
 use Rattle.theory.proofs.Lists.{getD-replicate-same}
 use Rattle.theory.proofs.Sums.{sum-change, sum-zero}
-use Rattle.theory.proofs.Search.Nearest.{Least, Right, nearest-right}
-use Rattle.theory.proofs.Search.Invariant.{scans, known, linksOf, Tree, SearchInv, AtRest, scans-fewer}
+use Rattle.theory.proofs.Search.Nearest.{Right, nearest-right}
+use Rattle.theory.specs.Invariants.{Least, scans, known, Tree, AtRest}
+use Rattle.theory.proofs.Search.Invariant.{scans-fewer}
 use Rattle.theory.proofs.Search.Relaxing.{label-everywhere}
 use Rattle.theory.proofs.Search.Scanning.{scan-kept, scan-roster}
 

@@ -2,17 +2,16 @@
 -- examined is settled; a head that improves gets a sum strictly below all that was offered to it before.
 use Prim.Native.Nat.{ℕ, _+_, _≤_, _<_}
 use mathlib.Core.Path.{_≡_, refl, sym, _∙_, ap}
-use mathlib.Core.Logic.{_≢_, _⊎_, inl, inr, ⊎-elim}
+use mathlib.Core.Logic.{_≢_, _⊎_, ⊎-elim}
 use mathlib.Core.Bool.{Bool, true, false, cond}
-use mathlib.Core.List.{List, [], _∷_, _++_, map, append-assoc, append-nil, List·Memᴰ, List·Memᴰ·head, List·Memᴰ·tail, List·Memᴰ·not-nil, Memᴰ·append-left, Memᴰ·append-right}
+use mathlib.Core.List.{List, [], _∷_, _++_, append-assoc, append-nil, List·Memᴰ, List·Memᴰ·head, List·Memᴰ·tail, List·Memᴰ·not-nil, Memᴰ·append-left, Memᴰ·append-right}
 use native.Mathlib.Omega.{arith}
 use Rattle.theory.specs.Network.{Link, Network, Path, Admissible}
-use Rattle.theory.specs.Search.{Mark, unlabelled, labelled, scanned, Search, mark, distance, parent, improves, label, relax, relaxAll, remove, scan, blank, start, search}
-use Rattle.theory.specs.Examined.{Examined, examinedOf, examined, offer, FirstOf}
+use Rattle.theory.specs.Search.{unlabelled, labelled, scanned, Search, mark, distance, parent, improves, label, relax, relaxAll, remove, scan, blank, start, search}
+use Rattle.theory.specs.Examined.{Examined, examinedOf, examined, FirstOf}
 use Rattle.theory.proofs.Cases.{same?, scanned≢unlabelled, labelled≢unlabelled, mark-cases}
 use Rattle.theory.proofs.Lists.{mem-snoc}
-use Rattle.theory.proofs.Search.Nearest.{Least}
-use Rattle.theory.proofs.Search.Invariant.{Settled, AtRest, Scanning}
+use Rattle.theory.specs.Invariants.{Least, Relaxed, AtRest, Scanning}
 use Rattle.theory.proofs.Search.Relaxing.{at-head, elsewhere, scanned-stays, settled-after, settled-now, relax-kept, improves-open, improves-less, below-false}
 use Rattle.theory.proofs.Search.Scanning.{remove-kept, remove-here, remove-other, scan-roster}
 use Rattle.theory.proofs.Search.Ends.{search-keeps, start-others}
@@ -39,7 +38,7 @@ first-more {s} {s′} {seen} {v} more f p d same = record {
 -- What holds of the links that have been examined.
 record Seen (N : Network) (s : Search) (seen : List Examined) : Type 0 where
   tails : (x : Examined) → List·Memᴰ x seen → mark s (x .tail) ≡ scanned
-  settled : (x : Examined) → List·Memᴰ x seen → Settled s (x .tail) (x .link)
+  settled : (x : Examined) → List·Memᴰ x seen → Relaxed s (x .tail) (x .link)
   first : (v : ℕ) → mark s v ≢ unlabelled → v ≢ N .source → FirstOf s seen v
 
 -- What holds of all that was seen, and of one more, holds of both.
@@ -57,7 +56,7 @@ module _ {N : Network} {C m u d : ℕ} {l : Link} {ls : List Link} {s : Search} 
       → Seen N (label (l .head) (d + l .cost) (l .arc) s) (seen ++ (now ∷ []))
   labelled-seen n less = record {
     tails = all-more (λ x. mark after (x .tail) ≡ scanned) seen now (λ x q. stays (x .tail) (I .tails x q) .0) (stays u (S .is-scanned) .0);
-    settled = all-more (λ x. Settled after (x .tail) (x .link)) seen now
+    settled = all-more (λ x. Relaxed after (x .tail) (x .link)) seen now
         (λ x q. settled-after A S out n less (x .tail) (x .link) (I .tails x q) (I .settled x q)) (settled-now A S out n less);
     first = λ v k apart. ⊎-elim (λ e. rw e newest) (λ e. older v k apart e) (same? v (l .head));
   }
@@ -92,7 +91,7 @@ module _ {N : Network} {C m u d : ℕ} {l : Link} {ls : List Link} {s : Search} 
   skipped-seen : mark s (l .head) ≢ unlabelled → distance s (l .head) ≤ d + l .cost → Seen N s (seen ++ (now ∷ []))
   skipped-seen met near = record {
     tails = all-more (λ x. mark s (x .tail) ≡ scanned) seen now (I .tails) (S .is-scanned);
-    settled = all-more (λ x. Settled s (x .tail) (x .link)) seen now (I .settled) (record { met = met; near = rw (S .is-at) near });
+    settled = all-more (λ x. Relaxed s (x .tail) (x .link)) seen now (I .settled) (record { met = met; near = rw (S .is-at) near });
     first = λ v k apart. first-more (now ∷ []) (I .first v k apart) refl refl (λ x o. refl);
   }
 

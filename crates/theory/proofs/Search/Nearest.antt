@@ -1,5 +1,5 @@
 -- `nearest` chooses the labelled node of smallest distance, and of smallest number among equals; there is one such node.
-use Prim.Native.Nat.{ℕ, zero, suc, _≤_, _<_}
+use Prim.Native.Nat.{ℕ, zero, suc, _<_}
 use mathlib.Core.Path.{_≡_, refl, sym, _∙_}
 use mathlib.Core.Logic.{inl, inr}
 use mathlib.Core.Bool.{Bool, true, false, cond}
@@ -8,25 +8,9 @@ use lib.ListN.{length}
 use lib.Dec.{ltb}
 use borrow.Author.Tests.{ltb-true, ltb-false}
 use Rattle.theory.specs.Search.{Mark, unlabelled, labelled, scanned, Search, mark, distance, Choice, nothing, chosen, nearer, consider, nearest}
-use Rattle.theory.proofs.Cases.{split, differ, labelled≢scanned, labelled≢unlabelled}
+use Rattle.theory.specs.Invariants.{LeastOf, Labelled, LabelledBelow, Least}
+use Rattle.theory.proofs.Cases.{split, labelled≢scanned, labelled≢unlabelled}
 use Rattle.theory.proofs.Lists.{inside}
-
--- Of the numbers in a set, v is the one of smallest key d, and the smallest of those.
-pub record LeastOf (Member : ℕ → Type 0) (keys : ℕ → ℕ) (v d : ℕ) : Type 0 where
-  pub member : Member v
-  pub key : keys v ≡ d
-  pub least : (w : ℕ) → Member w → d ≤ keys w
-  pub first : (w : ℕ) → Member w → keys w ≡ d → v ≤ w
-
-abbrev pub Labelled : Search → ℕ → Type 0
-Labelled s v = mark s v ≡ labelled
-
-abbrev pub LabelledBelow : Search → ℕ → ℕ → Type 0
-LabelledBelow s n v = (v < n) × Labelled s v
-
--- v is the labelled node of smallest distance d, and of smallest number among equals.
-abbrev pub Least : Search → (v d : ℕ) → Type 0
-Least s v d = LeastOf (Labelled s) (distance s) v d
 
 pub least-unique : (s : Search) {v w d e : ℕ} → Least s v d → Least s w e → (v ≡ w) × (d ≡ e)
 least-unique s {v} {w} {d} {e} a b =

@@ -15,7 +15,8 @@ use Rattle.theory.specs.Search.{Mark, unlabelled, labelled, scanned, Sea
 use Rattle.theory.proofs.Cases.{same?, differ, labelled≢scanned, labelled≢unlabelled, scanned≢unlabelled, mark-cases}
 use Rattle.theory.proofs.Lists.{inside, rising-same}
 use Rattle.theory.proofs.Sums.{sum-change}
-use Rattle.theory.proofs.Search.Invariant.{scans, known, linksOf, Tree, Settled, SearchInv, Scanning, known-few}
+use Rattle.theory.proofs.Search.Invariant.{known-few}
+use Rattle.theory.specs.Invariants.{scans, known, linksOf, Tree, Relaxed, SearchInv, Scanning}
 
 -- What holds of a node that is labelled, and of every other node, holds of every node: of its mark, distance and parent.
 pub label-everywhere : (P : ℕ → Mark → ℕ → ℕ → Type 0) (s : Search) (v x a : ℕ)
@@ -64,7 +65,7 @@ one-less first f (inr x) = inr (f x)
 
 -- Other links are left.
 pub left-changed : {N : Network} {C front n n′ : ℕ} {Left Left′ : ℕ → Link → Type 0} {s : Search} → SearchInv N C front Left n s → n′ ≤ n
-    → ((v : ℕ) → mark s v ≡ scanned → (l : Link) → Left v l ⊎ Settled s v l → Left′ v l ⊎ Settled s v l) → SearchInv N C front Left′ n′ s
+    → ((v : ℕ) → mark s v ≡ scanned → (l : Link) → Left v l ⊎ Relaxed s v l → Left′ v l ⊎ Relaxed s v l) → SearchInv N C front Left′ n′ s
 left-changed i le f = record {
   marks-length = i .marks-length;
   distances-length = i .distances-length;
@@ -158,13 +159,13 @@ module _ {N : Network} {C m u d : ℕ} {l : Link} {ls : List Link} {s : Search} 
       (λ q. (labelled≢unlabelled, mark-cases (mark s (l .head)) (λ e. absurd (q e)) (λ e. let h = less e in omega arith) (λ e. absurd (n e))))
       (λ w _ q. (q, omega arith))
 
-  pub settled-after : (w : ℕ) (l₁ : Link) → mark s w ≡ scanned → Settled s w l₁ → Settled after w l₁
+  pub settled-after : (w : ℕ) (l₁ : Link) → mark s w ≡ scanned → Relaxed s w l₁ → Relaxed after w l₁
   settled-after w l₁ k h =
       let f = no-farther (l₁ .head) (h .met) in
       let e = scanned-stays w k .2 in
       record { met = f .0; near = omega (arith, h .near) }
 
-  pub settled-now : Settled after u l
+  pub settled-now : Relaxed after u l
   settled-now =
       let e = scanned-stays u (S .is-scanned) .2 in
       let at = S .is-at in
@@ -176,7 +177,7 @@ module _ {N : Network} {C m u d : ℕ} {l : Link} {ls : List Link} {s : Search} 
       let at = S .is-at in
       Tree.on (tree-kept scanned-stays (S .inv .tree u (λ e. scanned≢unlabelled (sym (S .is-scanned) ∙ e))) (q .1) (q .2)) (q .0) l out (at-head .1) source-apart (omega (arith, at-head .2))
 
-  label-settles : (w : ℕ) → mark s w ≡ scanned → (l₁ : Link) → List·Memᴰ l₁ (N .out w) → ((w ≡ u) × List·Memᴰ l₁ ls) ⊎ Settled after w l₁
+  label-settles : (w : ℕ) → mark s w ≡ scanned → (l₁ : Link) → List·Memᴰ l₁ (N .out w) → ((w ≡ u) × List·Memᴰ l₁ ls) ⊎ Relaxed after w l₁
   label-settles w k l₁ m₁ = one-less (λ e q. rw (e, q) settled-now) (settled-after w l₁ k) (S .inv .settled w k l₁ m₁)
 
   label-sum : (f : ℕ → Mark → ℕ) → sumBelow (N .nodes) (λ w. f w (mark after w)) + f (l .head) (mark s (l .head)) ≡ sumBelow (N .nodes) (λ w. f w (mark s w)) + f (l .head) labelled
@@ -194,7 +195,7 @@ module _ {N : Network} {C m u d : ℕ} {l : Link} {ls : List Link} {s : Search} 
     source-zero = elsewhere (N .source) source-apart .2 ∙ S .inv .source-zero;
     source-orphan = elsewhere (N .source) source-apart .1 ∙ S .inv .source-orphan;
     tree = everywhere (λ w k x p. k ≢ unlabelled → Tree N after w) (λ _. tree-on) (λ w q h. tree-kept scanned-stays (S .inv .tree w h) (elsewhere w q .1) (elsewhere w q .2));
-    settled = everywhere (λ w k x p. k ≡ scanned → (l₁ : Link) → List·Memᴰ l₁ (N .out w) → ((w ≡ u) × List·Memᴰ l₁ ls) ⊎ Settled after w l₁) (λ e. absurd (labelled≢scanned e)) (λ w _. label-settles w);
+    settled = everywhere (λ w k x p. k ≡ scanned → (l₁ : Link) → List·Memᴰ l₁ (N .out w) → ((w ≡ u) × List·Memᴰ l₁ ls) ⊎ Relaxed after w l₁) (λ e. absurd (labelled≢scanned e)) (λ w _. label-settles w);
     behind = everywhere (λ w k x p. k ≡ scanned → x ≤ d) (λ e. absurd (labelled≢scanned e)) (λ w _. S .inv .behind w);
     ahead = everywhere (λ w k x p. k ≡ labelled → d ≤ x) (λ e. omega arith) (λ w _. S .inv .ahead w);
     window = everywhere (λ w k x p. k ≡ labelled → x ≤ d + C) (λ e. omega (arith, sum-window A S out)) (λ w _. S .inv .window w);

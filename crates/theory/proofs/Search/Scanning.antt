@@ -1,5 +1,5 @@
 -- A removal and a scan keep the invariant.
-use Prim.Native.Nat.{ℕ, suc, _+_, _*_, _≤_, _<_}
+use Prim.Native.Nat.{ℕ, suc, _+_, _*_, _≤_}
 use mathlib.Core.Path.{_≡_, refl, sym, _∙_}
 use mathlib.Core.Logic.{_≢_, _⊎_, inl, ⊎-map, ⊎-elim}
 use mathlib.Core.Bool.{Bool, true, false, cond}
@@ -13,8 +13,9 @@ use Rattle.theory.specs.Search.{Mark, unlabelled, labelled, scanned, Sea
 use Rattle.theory.proofs.Cases.{labelled≢scanned, labelled≢unlabelled, scanned≢unlabelled}
 use Rattle.theory.proofs.Lists.{set-everywhere, distinct-snoc, mem-snoc, snoc-last, rising-snoc}
 use Rattle.theory.proofs.Sums.{sum-change}
-use Rattle.theory.proofs.Search.Nearest.{Least, labelled-inside}
-use Rattle.theory.proofs.Search.Invariant.{scans, known, linksOf, Tree, Settled, SearchInv, AtRest, Scanning, labelled-node}
+use Rattle.theory.proofs.Search.Nearest.{labelled-inside}
+use Rattle.theory.specs.Invariants.{Least, scans, known, linksOf, Tree, Relaxed, AtRest, Scanning}
+use Rattle.theory.proofs.Search.Invariant.{labelled-node}
 use Rattle.theory.proofs.Search.Relaxing.{tree-kept, left-changed, relaxAll-kept}
 
 -- No link is left: the scan is over.
@@ -70,7 +71,7 @@ module _ {N : Network} {C front : ℕ} {s : Search} (I : AtRest N C front s) {v 
       source-zero = I .source-zero;
       source-orphan = I .source-orphan;
       tree = remove-everywhere (λ w k. k ≢ unlabelled → Tree N (remove v s) w) (λ e. grown v v-known) (λ w _. grown w);
-      settled = remove-everywhere (λ w k. k ≡ scanned → (l : Link) → List·Memᴰ l (N .out w) → ((w ≡ v) × List·Memᴰ l (N .out v)) ⊎ Settled (remove v s) w l)
+      settled = remove-everywhere (λ w k. k ≡ scanned → (l : Link) → List·Memᴰ l (N .out w) → ((w ≡ v) × List·Memᴰ l (N .out v)) ⊎ Relaxed (remove v s) w l)
           (λ e l m. inl (refl, m))
           (λ w _ k l m. ⊎-map (λ e. absurd e) (λ h. record { met = known-stays (l .head) (h .met); near = h .near }) (I .settled w k l m));
       behind = remove-everywhere (λ w k. k ≡ scanned → distance s w ≤ d) (λ e. omega (arith, min .key)) (λ w _ k. omega (arith, I .behind w k, late));

@@ -2,18 +2,18 @@
 use Prim.Native.Nat.{ℕ, zero, suc, _+_, _-_, _*_, _^_, _/_, _≤_, _<_, min, max}
 use native.Mathlib.Omega.{arith}
 use native.Mathlib.Nat.{pow-zero, pow-suc}
-use mathlib.Core.Path.{_≡_, refl, sym, _∙_}
+use mathlib.Core.Path.{_≡_, refl, _∙_}
 use mathlib.Core.List.{List}
 use borrow.Author.Tests.{lt-leb, lt-ltb, le-ltb}
 use Rattle.theory.specs.Sums.{sumBelow}
 use Rattle.theory.specs.Shape.{ceilLog, oneLevelBuckets, oneLevel, twoLevelBuckets, twoLevel}
 use Rattle.theory.specs.Heap.{bound, firstBounds}
-use Rattle.theory.proofs.Heap.Laws.{total}
-use Rattle.theory.proofs.Heap.Bounds.{Bounds, first-at, first-top, after-same}
-use Rattle.theory.proofs.Heap.Buckets.{Fits}
-use Rattle.theory.proofs.Heap.Shift.{seg, segEnd, after, after-first, after-next}
+use Rattle.theory.specs.Lawful.{total}
+use Rattle.theory.specs.Invariants.{Bounds, Fits, seg, segEnd, after}
+use Rattle.theory.proofs.Heap.Bounds.{first-at, first-top, after-same}
+use Rattle.theory.proofs.Heap.Shift.{after-first, after-next}
 use Rattle.theory.proofs.Shapes.Logarithm.{ceilLog-enough, ceilLog-least}
-use Rattle.theory.proofs.Shapes.OneLevel.{size-one, total-one, lawful-one}
+use Rattle.theory.proofs.Shapes.OneLevel.{total-one, lawful-one}
 use Rattle.theory.proofs.Shapes.TwoLevel.{lawful-two}
 
 -- e is ceil(logb(C + 1)): the least exponent with C + 1 ≤ b^e.

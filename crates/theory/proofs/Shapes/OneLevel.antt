@@ -5,7 +5,7 @@ use native.Mathlib.Nat.{one-le-pow}
 use mathlib.Core.Path.{_≡_, refl}
 use borrow.Author.Tests.{lt-leb}
 use Rattle.theory.specs.Shape.{ceilLog, oneLevelBuckets, oneLevel}
-use Rattle.theory.proofs.Heap.Laws.{total, Lawful}
+use Rattle.theory.specs.Lawful.{total, Lawful}
 use Rattle.theory.proofs.Shapes.Logarithm.{ceilLog-enough}
 
 module _ (n C : ℕ) where

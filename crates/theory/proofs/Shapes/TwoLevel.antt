@@ -1,5 +1,5 @@
 -- The two-level shape is lawful.
-use Prim.Native.Nat.{ℕ, zero, suc, _+_, _-_, _*_, _^_, _/_, _≤_, _<_, max}
+use Prim.Native.Nat.{ℕ, zero, suc, _+_, _-_, _*_, _^_, _/_, _≤_, _<_}
 use native.Mathlib.Omega.{arith}
 use native.Mathlib.Nat.{one-le-pow, pow-zero, pow-suc, pow-le-pow-right, mul-le-mul-right, div-lt-iff-lt-mul, div-mul-le-self, lt-div-mul-add, le-div-iff-mul-le}
 use mathlib.Core.Path.{_≡_}
@@ -7,7 +7,7 @@ use mathlib.Core.Logic.{inl, inr}
 use borrow.Author.Tests.{lt-ltb, le-ltb}
 use Rattle.theory.specs.Shape.{ceilLog, twoLevelBuckets, twoLevel}
 use Rattle.theory.proofs.Cases.{split}
-use Rattle.theory.proofs.Heap.Laws.{total, Lawful}
+use Rattle.theory.specs.Lawful.{total, Lawful}
 use Rattle.theory.proofs.Shapes.Logarithm.{ceilLog-enough}
 
 -- K segments of w keys, counted down from u: the segment of key x, and the upper end of segment k.

@@ -18,4 +18,4 @@ unfolding code.routine tablesOf
 count-decrease-spec 𝓤 H 𝓜 𝓖 𝓡 =
     entered 𝓤 H (tripleOf 𝓤 H (𝓖 .A) f.signature (f.spec 𝓤 H (𝓖 .A) (𝓜 .mem) (𝓡 .run)))
     (tables 𝓤 H 𝓜 𝓡 code.env .C) (tables 𝓤 H 𝓜 𝓡 code.env .Λ) name code.function (code.unfolded 𝓤 H 𝓜 𝓡)
-    (meets decreases 𝓤 H (𝓖 .A) (givenOf 𝓤 H 𝓜 𝓖) (f.clauses 𝓤 H (𝓖 .A) (𝓜 .mem) (𝓡 .run)) (λ κs a g. fact-mono 𝓤 _ _ (λ room. omega (arith, room))) (λ κs a g. factI 𝓤 _ (emp 𝓤) (refl, refl, refl, refl)) (tablesOf 𝓤 H 𝓜 (tables 𝓤 H 𝓜 𝓡 code.env)))
+    (meets decreases 𝓤 H (𝓖 .A) (givenOf 𝓤 H 𝓜 𝓖) (f.clauses 𝓤 H (𝓖 .A) (𝓜 .mem) (𝓡 .run)) (λ κs a g. fact-mono 𝓤 _ _ (λ room. omega (arith, room))) (λ κs a g. factI 𝓤 _ (emp 𝓤) refl) (tablesOf 𝓤 H 𝓜 (tables 𝓤 H 𝓜 𝓡 code.env)))

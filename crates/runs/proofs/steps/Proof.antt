@@ -1,0 +1,61 @@
+-- `runs::steps` meets its contract.
+use native.Mathlib.Omega.{arith}
+use Rattle.runs.proofs.Accepted.{top-few, placements-few, ended-ran, built-two, built-slots, built-runs, built-ended}
+use borrow.Author.Needs.{needs}
+use Rattle.runs.proofs.steps.Statement.{statement}
+use Rattle.runs.proofs.steps.Tie as tie
+
+-- The start, before what the core has left.
+abbrev start : tie.After-run-on → tie.Start
+start c = search needs
+
+sub-slots : tie.Need-sub-slots
+sub-slots c = let s : tie.Start = search needs in omega (arith, built-two _ (s .pre .built))
+
+mul-slots : tie.Need-mul-slots
+mul-slots c = let s : tie.Start = search needs in omega (arith, built-slots _ (s .pre .built))
+
+add-slots : tie.Need-add-slots
+add-slots c = let s : tie.Start = search needs in omega (arith, built-slots _ (s .pre .built))
+
+cast-slots : tie.Need-cast-t24
+cast-slots c = let s : tie.Start = search needs in omega (arith, built-slots _ (s .pre .built))
+
+mul-top : tie.Need-mul-top
+mul-top c = let s : tie.Start = search needs in omega (arith, top-few (s .pre .built .ready .valid))
+
+add-top : tie.Need-add-top
+add-top c = let s : tie.Start = search needs in omega (arith, top-few (s .pre .built .ready .valid))
+
+run-on-requires : tie.Need-run-on-requires
+run-on-requires c κs = let s : tie.Start = search needs in built-runs _ (s .pre .built)
+
+counts-requires : tie.Need-counts-requires
+counts-requires c κs =
+    let left : tie.After-run-on = search needs in
+    placements-few _ (start left .pre .built .ready) (built-ended _ (start left .pre .built) (left .run-on .ensures))
+
+returns : tie.Need-returns
+returns c L b =
+    let left : tie.After-run-on = search needs in
+    let counted : tie.After-counts = search needs in
+    ended-ran _ (b .ready) (built-ended _ b (left .run-on .ensures)) (rw (b .buckets-are, counted .counts .ensures) at (c .accepted-run .ensures))
+
+pub steps-spec : {M : Type 1} → statement M
+steps-spec =
+    tie.close
+    (tie.spec
+    sub-slots
+    mul-slots
+    add-slots
+    cast-slots
+    mul-top
+    add-top
+    run-on-requires
+    counts-requires
+    (λ c κs. search needs)
+    (λ c. search needs)
+    (λ c. search needs)
+    (λ c. search needs)
+    (λ c. search needs)
+    returns)
