@@ -7,41 +7,70 @@ use Rattle.budgets.proofs.Sizing.{missing-text, line-inside, fault-text
 use Rattle.budgets.proofs.answer_in.Statement.{statement}
 use Rattle.budgets.proofs.answer_in.Tie as tie
 
+-- The places that the answers name: the start, the line read, the size found in it, and its checks.
+abbrev start : tie.After-line-at → tie.Start
+start c = search needs
+
+abbrev line : tie.After-length → tie.After-line-at
+line c = search needs
+
+abbrev found : tie.After-size-check → tie.After-length
+found c = search needs
+
+abbrev fault-of : tie.After-check → tie.After-size-check
+fault-of c = search needs
+
+abbrev passed-of : tie.After-enum-told2 → tie.After-size-check
+passed-of c = search needs
+
+abbrev missing-of : tie.After-enum-told → tie.After-line-at
+missing-of c = search needs
+
 returns : tie.Need-returns
 returns c =
-    let s = c .before .before .before .before .before .before .before .before .before .before .before in
-    writes-same (missing-text (s .args .bytes .now) (sym (c .before .before .before .before .before .before .before .line-at .ensures .0) ∙ c .before .before .before .before .enum-told .given .1)) (c .before .before .write-refusal .ensures)
+    let told : tie.After-write-refusal = search needs in
+    let missing : tie.After-enum-told = search needs in
+    let read = missing-of missing in
+    writes-same (missing-text (start read .args .bytes .now) (sym (read .line-at .ensures .0) ∙ missing .enum-told .given .1)) (told .write-refusal .ensures)
 
 sub-size-check : tie.Need-sub-size-check
 sub-size-check c =
-    let s = c .before .before .before .before .before .before .before .before in
-    let read = c .before .before .before .before .line-at in
-    line-inside (s .args .bytes .now) _ (sym (read .ensures .0) ∙ c .before .length .given .1) (read .ensures .1)
+    let size : tie.After-length = search needs in
+    let read = line size in
+    line-inside (start read .args .bytes .now) _ (sym (read .line-at .ensures .0) ∙ size .length .given .1) (read .line-at .ensures .1)
 
 returns-2 : tie.Need-returns-2
 returns-2 c =
-    let s = c .before .before .before .before .before .before .before .before .before .before .before .before .before .before .before .before in
-    let read = c .before .before .before .before .before .before .before .before .before .before .before .before .line-at in
+    let told : tie.After-write-refusal2 = search needs in
+    let fault : tie.After-check = search needs in
+    let checked = fault-of fault in
+    let size = found checked in
+    let read = line size in
     writes-same
-    (fault-text (s .args .bytes .now) _ (sym (read .ensures .0) ∙ c .before .before .before .before .before .before .before .before .before .length .given .1) (read .ensures .1)
-    (sym (c .before .before .before .before .before .before .before .size-check .ensures) ∙ c .before .before .before .before .before .check .given .1)) (c .before .before .write-refusal2 .ensures)
+    (fault-text (start read .args .bytes .now) _ (sym (read .line-at .ensures .0) ∙ size .length .given .1) (read .line-at .ensures .1)
+    (sym (checked .size-check .ensures) ∙ fault .check .given .1)) (told .write-refusal2 .ensures)
 
 write-size-requires : tie.Need-write-size-requires
 write-size-requires c κs =
-    let s = c .before .before .before .before .before .before .before .before .before .before .before .before in
-    let read = c .before .before .before .before .before .before .before .before .line-at in (
-      passed-size (s .args .bytes .now) _ (sym (read .ensures .0) ∙ c .before .before .before .before .before .length .given .1) (read .ensures .1)
-          (sym (c .before .before .before .size-check .ensures) ∙ c .before .enum-told2 .given .1),
-      s .pre,
+    let passed : tie.After-enum-told2 = search needs in
+    let checked = passed-of passed in
+    let size = found checked in
+    let read = line size in (
+      passed-size (start read .args .bytes .now) _ (sym (read .line-at .ensures .0) ∙ size .length .given .1) (read .line-at .ensures .1)
+          (sym (checked .size-check .ensures) ∙ passed .enum-told2 .given .1),
+      start read .pre,
     )
 
 returns-3 : tie.Need-returns-3
 returns-3 c =
-    let s = c .before .before .before .before .before .before .before .before .before .before .before .before .before .before .before in
-    let read = c .before .before .before .before .before .before .before .before .before .before .before .line-at in
+    let written : tie.After-write-size = search needs in
+    let passed : tie.After-enum-told2 = search needs in
+    let checked = passed-of passed in
+    let size = found checked in
+    let read = line size in
     writes-same
-    (passed-text (s .args .bytes .now) _ (sym (read .ensures .0) ∙ c .before .before .before .before .before .before .before .before .length .given .1) (read .ensures .1)
-    (sym (c .before .before .before .before .before .before .size-check .ensures) ∙ c .before .before .before .before .enum-told2 .given .1)) (c .before .before .write-size .ensures)
+    (passed-text (start read .args .bytes .now) _ (sym (read .line-at .ensures .0) ∙ size .length .given .1) (read .line-at .ensures .1)
+    (sym (checked .size-check .ensures) ∙ passed .enum-told2 .given .1)) (written .write-size .ensures)
 
 pub answer-in-spec : {M : Type 1} → statement M
 answer-in-spec =

@@ -8,32 +8,64 @@ use Rattle.budgets.proofs.Sizing.{bounds-whole}
 use Rattle.budgets.proofs.write_bounds.Statement.{statement}
 use Rattle.budgets.proofs.write_bounds.Tie as tie
 
+-- The places that the answers name: the start, and what each call has written.
+abbrev start : tie.After-put-word → tie.Start
+start c = search needs
+
+abbrev word-put : tie.After-put-field → tie.After-put-word
+word-put c = search needs
+
+abbrev buckets-put : tie.After-put-field2 → tie.After-put-field
+buckets-put c = search needs
+
+abbrev decreases-put : tie.After-put-two → tie.After-put-field2
+decreases-put c = search needs
+
 put-field-requires : tie.Need-put-field-requires
-put-field-requires c κs = let s = c .before .before .before .before .before .before .before in omega (arith, s .pre, ended-length (s .args .word .now) comma, c .before .before .before .put-word .ensures .behind)
+put-field-requires c κs =
+    let word : tie.After-put-word = search needs in
+    let s = start word in
+    omega (arith, s .pre, ended-length (s .args .word .now) comma, word .put-word .ensures .behind)
 
 put-field-requires-2 : tie.Need-put-field-requires-2
 put-field-requires-2 c κs =
-    let s = c .before .before .before .before .before .before .before .before .before .before .before in
-    omega (arith, s .pre, ended-length (s .args .word .now) comma, field-most (s .args .buckets) comma, c .before .before .before .before .before .before .before .put-word .ensures .behind, c .before .before .before .put-field .ensures .behind)
+    let buckets : tie.After-put-field = search needs in
+    let word = word-put buckets in
+    let s = start word in
+    omega (
+      arith,
+      s .pre,
+      ended-length (s .args .word .now) comma,
+      field-most (s .args .buckets) comma,
+      word .put-word .ensures .behind,
+      buckets .put-field .ensures .behind,
+    )
 
 put-two-requires : tie.Need-put-two-requires
 put-two-requires c κs =
-    let s = c .before .before .before .before .before .before .before .before .before .before .before .before .before .before .before in
+    let decreases : tie.After-put-field2 = search needs in
+    let buckets = buckets-put decreases in
+    let word = word-put buckets in
+    let s = start word in
     omega (
       arith,
       s .pre,
       ended-length (s .args .word .now) comma,
       field-most (s .args .buckets) comma,
       field-most (s .args .decreases) comma,
-      c .before .before .before .before .before .before .before .before .before .before .before .put-word .ensures .behind,
-      c .before .before .before .before .before .before .before .put-field .ensures .behind,
-      c .before .before .before .put-field2 .ensures .behind,
+      word .put-word .ensures .behind,
+      buckets .put-field .ensures .behind,
+      decreases .put-field2 .ensures .behind,
     )
 
 returns : tie.Need-returns
 returns c =
+    let two : tie.After-put-two = search needs in
+    let decreases = decreases-put two in
+    let buckets = buckets-put decreases in
     writes-same (bounds-whole _ _ _ _ _)
-    (writes-then (writes-then (writes-then (c .before .before .before .before .before .before .before .before .before .before .before .before .before .before .put-word .ensures) (c .before .before .before .before .before .before .before .before .before .before .put-field .ensures)) (c .before .before .before .before .before .before .put-field2 .ensures)) (c .before .before .put-two .ensures))
+    (writes-then (writes-then (writes-then (word-put buckets .put-word .ensures) (buckets .put-field .ensures)) (decreases .put-field2 .ensures))
+    (two .put-two .ensures))
 
 pub write-bounds-spec : {M : Type 1} → statement M
 write-bounds-spec =

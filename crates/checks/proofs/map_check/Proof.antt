@@ -23,27 +23,37 @@ words s =
     ∷ costsCheck (s .args .ceiling) (s .args .costs .now)
     ∷ []
 
+-- The places that the answers name: the start, the sizes checked, and where they have passed.
+abbrev start : tie.After-size-check → tie.Start
+start c = search needs
+
+abbrev checked : tie.After-enum-told → tie.After-size-check
+checked c = search needs
+
+abbrev entry : tie.After-first-of → tie.After-enum-told
+entry c = search needs
+
 returns : tie.Need-returns
 unfolding mapChecks
 returns c =
-    let s = c .before .before .before .before .before .before in
-    stopped (sizes s) (words s) (c .before .before .size-check .ensures) (c .enum-told2 .given .1)
+    let z : tie.After-size-check = search needs in
+    stopped (sizes (start z)) (words (start z)) (z .size-check .ensures) (c .enum-told2 .given .1)
 
-passed : (c : tie.After-enum-told) → AllPass (sizes (c .before .before .before .before .before .before))
-passed c = passed-all _ (sym (c .before .before .size-check .ensures) ∙ c .enum-told .given .1)
+passed : (c : tie.After-enum-told) → AllPass (sizes (start (checked c)))
+passed c = passed-all _ (sym (checked c .size-check .ensures) ∙ c .enum-told .given .1)
 
 starts-check-requires : tie.Need-starts-check-requires
 starts-check-requires c κs = sized _ _ _ _ _ _ (passed c) .1
 
 heads-check-requires : tie.Need-heads-check-requires
-heads-check-requires c κs = sized _ _ _ _ _ _ (passed (c .before)) .0
+heads-check-requires c κs = let p : tie.After-enum-told = search needs in sized _ _ _ _ _ _ (passed p) .0
 
 returns-2 : tie.Need-returns-2
 unfolding mapChecks
 returns-2 c =
-    let up-to-7 = c .before .before in
-    let entry = up-to-7 .before .before .before in
-    gone-on (sizes (entry .before .before .before .before .before .before)) (all-passed (passed entry))
+    let up-to-7 : tie.After-first-of = search needs in
+    let p = entry up-to-7 in
+    gone-on (sizes (start (checked p))) (all-passed (passed p))
     (both (both (one (up-to-7 .before .before .starts-check .ensures)) (one (up-to-7 .before .heads-check .ensures)) (up-to-7 .first-of .ensures))
     (one (c .before .costs-check .ensures)) (c .first-of2 .ensures))
 

@@ -6,10 +6,15 @@ use borrow.Author.Needs.{needs}
 use Rattle.frontier.proofs.scan_slot.Statement.{statement}
 use Rattle.frontier.proofs.scan_slot.Tie as tie
 
+-- The start, before the node was taken.
+abbrev start : tie.After-take → tie.Start
+start c = search needs
+
 returns : tie.Need-returns
 returns c =
-    let d = c .before .before .before .before .before .before in
-    let m = c .before .before .before .take .ensures in
+    let taken : tie.After-take = search needs in
+    let d = start taken in
+    let m = taken .take .ensures in
     let v = d .args .v .0 in
     let hv = d .pre .1 .0 in
     let here = moved-here (d .pre .0 .linked) m hv in

@@ -4,15 +4,19 @@ use borrow.Author.Needs.{needs}
 use Rattle.frontier.proofs.take_current.Statement.{statement}
 use Rattle.frontier.proofs.take_current.Tie as tie
 
+-- The start, before the node was taken.
+abbrev start : tie.After-take-smallest → tie.Start
+start c = search needs
+
 take-smallest-requires : tie.Need-take-smallest-requires
 take-smallest-requires c κs =
-    let d = c .before .before in
+    let d : tie.Start = search needs in
     (set-bits (d .pre .0), inhabited (d .pre .0) (d .pre .1))
 
 returns : tie.Need-returns
 returns c =
-    let d = c .before .before .before .before .before .before in
-    taken-first (d .pre .0) (c .before .before .before .take-smallest .ensures)
+    let taken : tie.After-take-smallest = search needs in
+    taken-first (start taken .pre .0) (taken .take-smallest .ensures)
 
 pub take-current-spec : {M : Type 1} → statement M
 take-current-spec =

@@ -35,31 +35,44 @@ module _ (d : tie.Start) (some : getD (d .args .words .now) (4 * d .args .n + 32
   home : getD words (d .args .n + v) 0 ≡ 4 * d .args .n + 32 + d .args .slot
   home = first-home (d .pre .0) (d .args .slot) (d .pre .1 .0) v is
 
+-- The places that the answers name: the start, a slot with a first node, and that node counted out.
+abbrev start : tie.Else1 → tie.Start
+start c = search needs
+
+abbrev filled : tie.After-count-out → tie.Else1
+filled c = search needs
+
 returns : tie.Need-returns
-returns c = let d = c .before .before .before in (first-none (d .pre .0) (d .args .slot) (d .pre .1 .0) (omega arith), refl)
+returns c = let d : tie.Start = search needs in (first-none (d .pre .0) (d .args .slot) (d .pre .1 .0) (omega arith), refl)
 
 cast-v : tie.Need-cast-v
-cast-v c = let d = c .before .before .before in omega (arith, head-le (d .pre .0) (d .args .slot) (d .pre .1 .0))
+cast-v c = let d : tie.Start = search needs in omega (arith, head-le (d .pre .0) (d .args .slot) (d .pre .1 .0))
 
 count-out-requires : tie.Need-count-out-requires
-count-out-requires c κs = let d = c .before .before .before .before in let k = c .before .if1 .left in (d .pre .0, ((in-slot d k .0, bucket d k), held d k))
+count-out-requires c κs =
+    let some : tie.Else1 = search needs in
+    let d = start some in
+    let k = some .if1 .left in
+    (d .pre .0, ((in-slot d k .0, bucket d k), held d k))
 
 unlink-requires : tie.Need-unlink-requires
 unlink-requires c κs =
-    let d = c .before .before .before .before .before .before .before .before in
-    let k = c .before .before .before .before .before .if1 .left in
-    let e = rw (bucket d k) at (c .before .before .before .count-out .ensures) in
+    let a : tie.After-count-out = search needs in
+    let d = start (filled a) in
+    let k = filled a .if1 .left in
+    let e = rw (bucket d k) at (a .count-out .ensures) in
     let r = take-ready (d .pre .0) (v d k) (in-slot d k .0) (held d k) e in
     (r .0, (r .1, ((in-slot d k .0, sym (home d k) ∙ sym (take-before (d .pre .0) (v d k) (in-slot d k .0) (held d k) e)), r .2)))
 
 cast-found : tie.Need-cast-t13
-cast-found c = let d = c .before .before .before .before .before .before .before .before .before .before .before in omega (arith, head-le (d .pre .0) (d .args .slot) (d .pre .1 .0), d .pre .0 .fits .small)
+cast-found c = let some : tie.Else1 = search needs in let d = start some in omega (arith, head-le (d .pre .0) (d .args .slot) (d .pre .1 .0), d .pre .0 .fits .small)
 
 returns-2 : tie.Need-returns-2
 returns-2 c =
-    let d = c .before .before .before .before .before .before .before .before .before .before .before in
-    let k = c .before .before .before .before .before .before .before .before .if1 .left in
-    let e = rw (bucket d k) at (c .before .before .before .before .before .before .count-out .ensures) in
+    let a : tie.After-count-out = search needs in
+    let d = start (filled a) in
+    let k = filled a .if1 .left in
+    let e = rw (bucket d k) at (a .count-out .ensures) in
     (in-slot d k, take-moved (d .pre .0) (v d k) (in-slot d k .0) (held d k) e (c .before .before .unlink .ensures))
 
 pub take-first-spec : {M : Type 1} → statement M

@@ -6,77 +6,99 @@ use borrow.Author.Needs.{needs}
 use Rattle.placing.proofs.enter.Statement.{statement}
 use Rattle.placing.proofs.enter.Tie as tie
 
+-- The places that the answers name: the start, where the key is the current one, where it is not, and what the calls have left.
+abbrev current-start : tie.Then1 → tie.Start
+current-start c = search needs
+
+abbrev current : tie.After-enter-current → tie.Then1
+current c = search needs
+
+abbrev start : tie.Else1 → tie.Start
+start c = search needs
+
+abbrev later : tie.After-bucket-of → tie.Else1
+later c = search needs
+
+abbrev bucket : tie.After-segment-of → tie.After-bucket-of
+bucket c = search needs
+
 returns : tie.Need-returns
 returns c =
-    let d = c .before .before .before .before .before .before .before in
-    entered-current (d .pre) (c .before .before .before .before .if1 .taken) (c .before .before .enter-current .ensures)
+    let entered : tie.After-enter-current = search needs in
+    let k = current entered in
+    entered-current (current-start k .pre) (k .if1 .taken) (entered .enter-current .ensures)
 
 -- Once the bucket is found.
 module _ (c : tie.After-bucket-of) where
   abbrev d : tie.Start
-  d = c .before .before .before .before .before
+  d = start (later c)
 
   abbrev b : ℕ
   b = c .bucket-of .result
 
   read : 4 * d .args .layout .nodes + b < lib.ListN.length (d .args .words .now)
-  read = bucket-read (d .pre) (c .before .before .if1 .left) (c .bucket-of .ensures)
+  read = bucket-read (d .pre) (later c .if1 .left) (c .bucket-of .ensures)
 
 add-bound : tie.Need-add-bound
-add-bound c = omega (arith, read c)
+add-bound c = let e : tie.After-bucket-of = search needs in omega (arith, read e)
 
 mul-bound-2 : tie.Need-mul-bound-2
-mul-bound-2 c = omega (arith, read c)
+mul-bound-2 c = let e : tie.After-bucket-of = search needs in omega (arith, read e)
 
 slice-read-bound : tie.Need-slice-read-bound
-slice-read-bound c = read (c .before)
+slice-read-bound c = let e : tie.After-bucket-of = search needs in read e
 
 segment-of-requires : tie.Need-segment-of-requires
 segment-of-requires c κs =
-    let b = c .before in
-    let p = d b .pre in
-    let q = b .before .before .if1 .left in
-    let f = slot-fits p q (b .bucket-of .ensures) in
-    (p .formed .sized, (f .first, (under p q (b .bucket-of .ensures), f .low)))
+    let e : tie.After-bucket-of = search needs in
+    let p = d e .pre in
+    let q = later e .if1 .left in
+    let f = slot-fits p q (e .bucket-of .ensures) in
+    (p .formed .sized, (f .first, (under p q (e .bucket-of .ensures), f .low)))
 
 -- Once the segment is found.
 module _ (c : tie.After-segment-of) where
   abbrev e : tie.After-bucket-of
-  e = c .before .before
+  e = bucket c
 
   slot-few : (e .bucket-of .result - 1) * d e .args .layout .segments + (c .segment-of .result - 1) < 512
-  slot-few = few (d e .pre) (e .before .before .if1 .left) (e .bucket-of .ensures) (c .segment-of .ensures)
+  slot-few = few (d e .pre) (later e .if1 .left) (e .bucket-of .ensures) (c .segment-of .ensures)
 
   bucket-low : 1 ≤ e .bucket-of .result
-  bucket-low = slot-fits (d e .pre) (e .before .before .if1 .left) (e .bucket-of .ensures) .first
+  bucket-low = slot-fits (d e .pre) (later e .if1 .left) (e .bucket-of .ensures) .first
 
   low : 1 ≤ c .segment-of .result
-  low = segment-low (d e .pre) (e .before .before .if1 .left) (e .bucket-of .ensures) (c .segment-of .ensures)
+  low = segment-low (d e .pre) (later e .if1 .left) (e .bucket-of .ensures) (c .segment-of .ensures)
 
 sub-slot : tie.Need-sub-slot
-sub-slot c = bucket-low c
+sub-slot c = let s : tie.After-segment-of = search needs in bucket-low s
 
 mul-slot : tie.Need-mul-slot
-mul-slot c = omega (arith, slot-few c)
+mul-slot c = let s : tie.After-segment-of = search needs in omega (arith, slot-few s)
 
 sub-slot-2 : tie.Need-sub-slot-2
-sub-slot-2 c = low c
+sub-slot-2 c = let s : tie.After-segment-of = search needs in low s
 
 add-slot : tie.Need-add-slot
-add-slot c = omega (arith, slot-few c)
+add-slot c = let s : tie.After-segment-of = search needs in omega (arith, slot-few s)
 
 enter-slot-requires : tie.Need-enter-slot-requires
 enter-slot-requires c κs =
-    let e = c .before .before .before in
+    let s : tie.After-segment-of = search needs in
+    let e = bucket s in
     let p = d e .pre in
-    let q = e .before .before .if1 .left in
-    (p .frontier, ((p .node, p .unlabelled), (in-slots p q (e .bucket-of .ensures) (c .before .segment-of .ensures), in-bucket p q (e .bucket-of .ensures) (c .before .segment-of .ensures))))
+    let q = later e .if1 .left in
+    (p .frontier, ((p .node, p .unlabelled), (in-slots p q (e .bucket-of .ensures) (s .segment-of .ensures), in-bucket p q (e .bucket-of .ensures) (s .segment-of .ensures))))
+
+abbrev segment : tie.After-enter-slot → tie.After-segment-of
+segment c = search needs
 
 returns-2 : tie.Need-returns-2
 returns-2 c =
-    let s = c .before .before .before .before in
-    let e = s .before .before in
-    entered-slot (d e .pre) (e .before .before .if1 .left) (e .bucket-of .ensures) (s .segment-of .ensures) (c .before .before .enter-slot .ensures)
+    let entered : tie.After-enter-slot = search needs in
+    let s = segment entered in
+    let e = bucket s in
+    entered-slot (d e .pre) (later e .if1 .left) (e .bucket-of .ensures) (s .segment-of .ensures) (entered .enter-slot .ensures)
 
 pub enter-spec : {M : Type 1} → statement M
 enter-spec =

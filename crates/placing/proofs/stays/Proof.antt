@@ -12,23 +12,28 @@ returns : tie.Need-returns
 returns c e = let z : _≡_ {A = ℕ} 0 1 = cc in absurd (omega arith)
 
 sub-slot : tie.Need-sub-slot
-sub-slot c = omega (arith, place-slot (c .before .before .before .pre))
+sub-slot c = let s : tie.Start = search needs in omega (arith, place-slot (s .pre))
 
 mul-segment : tie.Need-mul-segment
-mul-segment c = omega (arith, product-few (c .before .before .before .pre))
+mul-segment c = let s : tie.Start = search needs in omega (arith, product-few (s .pre))
 
 sub-segment-2 : tie.Need-sub-segment-2
-sub-segment-2 c = product-low (c .before .before .before .pre)
+sub-segment-2 c = let s : tie.Start = search needs in product-low (s .pre)
 
 is-inside-requires : tie.Need-is-inside-requires
 is-inside-requires c κs =
-    let S = c .before .before .before .pre in
+    let s : tie.Start = search needs in
+    let S = s .pre in
     (S .formed .sized, ((bucket-low S, bound-read S), (segment-high S, below-end S)))
+
+abbrev start : tie.Else1 → tie.Start
+start c = search needs
 
 returns-2 : tie.Need-returns-2
 returns-2 c e =
-    let S = c .before .before .before .before .pre in
-    stays-word S (λ e. c .before .if1 .left (sym e))
+    let later : tie.Else1 = search needs in
+    let S = start later .pre in
+    stays-word S (λ e. later .if1 .left (sym e))
     (inside-belongs _ _ _ _ _ _ _ _ (bucket-low S) (segment-high S) (below-end S) (sym (c .is-inside .ensures) ∙ e))
 
 pub stays-spec : {M : Type 1} → statement M

@@ -9,51 +9,64 @@ use Rattle.reader.proofs.Answered.{header-within, no-header-promised, r
 use Rattle.reader.proofs.read.Statement.{statement}
 use Rattle.reader.proofs.read.Tie as tie
 
-abbrev entry : tie.After-known-told → tie.Start
-entry c = c .before .before .before .before .before .before .before .before
+-- The places that the answers name: the start, the header line asked for, its fields, the checks made, and passed.
+abbrev start : tie.After-header-line-at → tie.Start
+start c = search needs
 
-abbrev line : tie.After-known-told → tie.After-nodes
-line c = c .before
+abbrev asked : tie.After-nodes → tie.After-header-line-at
+asked c = search needs
 
-header-read : (c : tie.After-known-told)
-    → headerLine (entry c .args .bytes .now)
-    ≡ HeaderRead (line c .nodes .given .0 .0) (line c .nodes .given .0 .1 .0) (line c .nodes .given .0 .1 .1 .0) (line c .nodes .given .0 .1 .1 .1 .0)
-    (line c .nodes .given .0 .1 .1 .1 .1 .0) (line c .nodes .given .0 .1 .1 .1 .1 .1 .0)
-header-read c = sym (c .before .before .before .header-line-at .ensures) ∙ line c .nodes .given .1
+abbrev header : tie.After-plan-check → tie.After-nodes
+header c = search needs
+
+abbrev checked : tie.After-enum-told2 → tie.After-plan-check
+checked c = search needs
+
+abbrev passed : tie.After-fill → tie.After-enum-told2
+passed c = search needs
+
+abbrev entry : tie.After-nodes → tie.Start
+entry c = start (asked c)
+
+header-read : (c : tie.After-nodes)
+    → let fields = c .nodes .given .0 in
+    let last = fields .1 .1 .1 in
+    headerLine (entry c .args .bytes .now) ≡ HeaderRead (fields .0) (fields .1 .0) (fields .1 .1 .0) (last .0) (last .1 .0) (last .1 .1 .0)
+header-read c = sym (asked c .header-line-at .ensures) ∙ c .nodes .given .1
 
 returns : tie.Need-returns
 returns c = no-header-promised _ _ _ _ (sym (c .before .before .header-line-at .ensures) ∙ c .enum-told .given .1)
 
 plan-check-requires : tie.Need-plan-check-requires
-plan-check-requires c κs = header-within (entry c .args .bytes .now) (header-read c)
+plan-check-requires c κs = let h : tie.After-nodes = search needs in header-within (entry h .args .bytes .now) (header-read h)
 
 -- what the first pass came to is the checks of the file
 abbrev lists : tie.After-plan-check → tie.Start
-lists c = entry (c .before)
+lists c = entry (header c)
 
 checks : (c : tie.After-plan-check)
     → c .plan-check .result ≡ planCheck (lists c .args .bytes .now) (length (lists c .args .starts .now)) (length (lists c .args .heads .now)) (length (lists c .args .costs .now))
 checks c =
     c .plan-check .ensures
-    ∙ sym (plan-check-is (lists c .args .bytes .now) (lists c .args .starts .now) (lists c .args .heads .now) (lists c .args .costs .now) (header-read (c .before)))
+    ∙ sym (plan-check-is (lists c .args .bytes .now) (lists c .args .starts .now) (lists c .args .heads .now) (lists c .args .costs .now) (header-read (header c)))
 
 returns-2 : tie.Need-returns-2
-returns-2 c = refused-promised _ _ _ _ (sym (checks (c .before .before .before)) ∙ c .before .check .given .1)
+returns-2 c = let d : tie.After-plan-check = search needs in refused-promised _ _ _ _ (sym (checks d) ∙ c .before .check .given .1)
 
 -- every check has passed
 fill-requires : tie.Need-fill-requires
 fill-requires c κs =
-    let d = c .before .before .before .before .before in
-    fillable (lists d .args .bytes .now) (lists d .args .starts .now) (lists d .args .heads .now) (lists d .args .costs .now) (header-read (d .before))
-    (sym (d .plan-check .ensures) ∙ c .before .before .before .enum-told2 .given .1)
+    let p : tie.After-enum-told2 = search needs in
+    let d = checked p in
+    fillable (lists d .args .bytes .now) (lists d .args .starts .now) (lists d .args .heads .now) (lists d .args .costs .now) (header-read (header d))
+    (sym (d .plan-check .ensures) ∙ p .enum-told2 .given .1)
 
 returns-3 : tie.Need-returns-3
 returns-3 c =
-    let filled = c .before .before .before .before .before .before in
-    let passed = filled .before .before .before .before in
-    let d = passed .before .before in
-    read-promised (lists d .args .bytes .now) (lists d .args .starts .now) (lists d .args .heads .now) (lists d .args .costs .now) (header-read (d .before))
-    _ refl (sym (checks d) ∙ passed .enum-told2 .given .1) (filled .fill .ensures)
+    let filled : tie.After-fill = search needs in
+    let d = checked (passed filled) in
+    read-promised (lists d .args .bytes .now) (lists d .args .starts .now) (lists d .args .heads .now) (lists d .args .costs .now) (header-read (header d))
+    _ refl (sym (checks d) ∙ passed filled .enum-told2 .given .1) (filled .fill .ensures)
 
 pub read-spec : {M : Type 1} → statement M
 read-spec =

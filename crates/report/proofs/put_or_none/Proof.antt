@@ -9,19 +9,37 @@ use Rattle.report.proofs.Lines.{or-none-mark, or-none-number}
 use Rattle.report.proofs.put_or_none.Statement.{statement}
 use Rattle.report.proofs.put_or_none.Tie as tie
 
+-- The places that the answers name: the start, and both branches.
+abbrev start : tie.Then1 → tie.Start
+start c = search needs
+
+abbrev marked : tie.After-put-byte → tie.Then1
+marked c = search needs
+
+abbrev mark-put : tie.After-put-byte2 → tie.After-put-byte
+mark-put c = search needs
+
+abbrev start-2 : tie.Else1 → tie.Start
+start-2 c = search needs
+
+abbrev numbered : tie.After-put-field → tie.Else1
+numbered c = search needs
+
 returns : tie.Need-returns
 returns c =
-    let first = c .before .before .before .before .before .before .before .before .before .before .args in
-    let mark = c .before .before .before .before .before .before .before .before .if1 .taken in
-    writes-same (ap (λ (l : List ℕ). ended l (first .end)) (sym (or-none-mark (first .value) mark)))
-    (writes-then (c .before .before .before .before .before .before .put-byte .ensures) (c .before .before .put-byte2 .ensures))
+    let last : tie.After-put-byte2 = search needs in
+    let mark = mark-put last in
+    let given = start (marked mark) .args in
+    writes-same (ap (λ (l : List ℕ). ended l (given .end)) (sym (or-none-mark (given .value) (marked mark .if1 .taken))))
+    (writes-then (mark .put-byte .ensures) (last .put-byte2 .ensures))
 
 returns-2 : tie.Need-returns-2
 returns-2 c =
-    let first = c .before .before .before .before .before .before .args in
-    let number = c .before .before .before .before .if1 .left in
-    writes-same (ap (λ (l : List ℕ). ended l (first .end)) (sym (or-none-number (first .value) number)))
-    (c .before .before .put-field .ensures)
+    let put : tie.After-put-field = search needs in
+    let number = numbered put in
+    let given = start-2 number .args in
+    writes-same (ap (λ (l : List ℕ). ended l (given .end)) (sym (or-none-number (given .value) (number .if1 .left))))
+    (put .put-field .ensures)
 
 pub put-or-none-spec : {M : Type 1} → statement M
 put-or-none-spec =

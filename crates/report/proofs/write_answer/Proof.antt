@@ -7,57 +7,69 @@ use Rattle.report.proofs.Lines.{counts-most, heap-most, accepted-whole}
 use Rattle.report.proofs.write_answer.Statement.{statement}
 use Rattle.report.proofs.write_answer.Tie as tie
 
+-- The places that the answers name: the start, and what each call has written.
+abbrev start : tie.After-write-counts → tie.Start
+start c = search needs
+
+abbrev counts-put : tie.After-write-heap → tie.After-write-counts
+counts-put c = search needs
+
+abbrev one-put : tie.After-write-heap2 → tie.After-write-heap
+one-put c = search needs
+
+abbrev two-put : tie.After-write-nodes → tie.After-write-heap2
+two-put c = search needs
+
 write-heap-requires : tie.Need-write-heap-requires
 write-heap-requires c κs =
-    let counts = c .before .before .before .before in
-    let args = counts .before .before .before .before .before .args in
+    let counts : tie.After-write-counts = search needs in
+    let given = start counts .args in
     omega (
       arith,
-      counts-most (args .nodes) (args .arcs) (args .reached) (args .decreases),
+      counts-most (given .nodes) (given .arcs) (given .reached) (given .decreases),
       counts .write-counts .ensures .behind,
     )
 
 write-heap-requires-2 : tie.Need-write-heap-requires-2
 write-heap-requires-2 c κs =
-    let one = c .before .before .before .before in
-    let counts = one .before .before .before .before .before in
-    let args = counts .before .before .before .before .before .args in
+    let one : tie.After-write-heap = search needs in
+    let counts = counts-put one in
+    let given = start counts .args in
     omega (
       arith,
-      counts-most (args .nodes) (args .arcs) (args .reached) (args .decreases),
-      heap-most wordOne (args .one .buckets) (args .one .placements) (args .one .looks),
+      counts-most (given .nodes) (given .arcs) (given .reached) (given .decreases),
+      heap-most wordOne (given .one .buckets) (given .one .placements) (given .one .looks),
       counts .write-counts .ensures .behind,
       one .write-heap .ensures .behind,
     )
 
 write-nodes-requires : tie.Need-write-nodes-requires
 write-nodes-requires c κs =
-    let two = c .before .before .before in
-    let one = two .before .before .before .before .before in
-    let counts = one .before .before .before .before .before in
-    let first = counts .before .before .before .before .before in
-    let args = first .args in (
+    let two : tie.After-write-heap2 = search needs in
+    let one = one-put two in
+    let counts = counts-put one in
+    let s = start counts in
+    let given = s .args in (
       omega (
         arith,
-        counts-most (args .nodes) (args .arcs) (args .reached) (args .decreases),
-        heap-most wordOne (args .one .buckets) (args .one .placements) (args .one .looks),
-        heap-most wordTwo (args .two .buckets) (args .two .placements) (args .two .looks),
+        counts-most (given .nodes) (given .arcs) (given .reached) (given .decreases),
+        heap-most wordOne (given .one .buckets) (given .one .placements) (given .one .looks),
+        heap-most wordTwo (given .two .buckets) (given .two .placements) (given .two .looks),
         counts .write-counts .ensures .behind,
         one .write-heap .ensures .behind,
         two .write-heap2 .ensures .behind,
-        first .pre .0,
+        s .pre .0,
       ),
-      first .pre .1,
+      s .pre .1,
     )
 
 returns : tie.Need-returns
 returns c =
-    let nodes = c .before .before in
-    let two = nodes .before .before .before .before in
-    let one = two .before .before .before .before .before in
-    let counts = one .before .before .before .before .before in
+    let nodes : tie.After-write-nodes = search needs in
+    let two = two-put nodes in
+    let one = one-put two in
     writes-same (accepted-whole _ _ _ _ _ _ _ _ _ _ _ _)
-    (writes-then (writes-then (writes-then (counts .write-counts .ensures) (one .write-heap .ensures)) (two .write-heap2 .ensures))
+    (writes-then (writes-then (writes-then (counts-put one .write-counts .ensures) (one .write-heap .ensures)) (two .write-heap2 .ensures))
     (nodes .write-nodes .ensures))
 
 pub write-answer-spec : {M : Type 1} → statement M

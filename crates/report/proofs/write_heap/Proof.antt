@@ -7,27 +7,39 @@ use Rattle.report.proofs.Lines.{ended-length, field-most, heap-whole}
 use Rattle.report.proofs.write_heap.Statement.{statement}
 use Rattle.report.proofs.write_heap.Tie as tie
 
+-- The places that the answers name: the start, and what each call has written.
+abbrev start : tie.After-put-word → tie.Start
+start c = search needs
+
+abbrev word-put : tie.After-put-field → tie.After-put-word
+word-put c = search needs
+
+abbrev buckets-put : tie.After-put-two → tie.After-put-field
+buckets-put c = search needs
+
 put-field-requires : tie.Need-put-field-requires
 put-field-requires c κs =
-    let first = c .before .before .before .before .before .before .before .before in
-    omega (arith, ended-length (first .args .word .now) comma, c .before .before .before .before .put-word .ensures .behind)
+    let word : tie.After-put-word = search needs in
+    omega (arith, ended-length (start word .args .word .now) comma, word .put-word .ensures .behind)
 
 put-two-requires : tie.Need-put-two-requires
 put-two-requires c κs =
-    let first = c .before .before .before .before .before .before .before .before .before .before .before .before .before .before in
+    let buckets : tie.After-put-field = search needs in
+    let word = word-put buckets in
+    let given = start word .args in
     omega (
       arith,
-      ended-length (first .args .word .now) comma,
-      field-most (first .args .heap .buckets) comma,
-      c .before .before .before .before .before .before .before .before .before .before .put-word .ensures .behind,
-      c .before .before .before .before .before .put-field .ensures .behind,
+      ended-length (given .word .now) comma,
+      field-most (given .heap .buckets) comma,
+      word .put-word .ensures .behind,
+      buckets .put-field .ensures .behind,
     )
 
 returns : tie.Need-returns
 returns c =
-    let second = c .before .before .before .before .before .before .before .before in
-    let first = second .before .before .before .before .before in
-    writes-same (heap-whole _ _ _ _) (writes-then (writes-then (first .put-word .ensures) (second .put-field .ensures)) (c .before .before .put-two .ensures))
+    let two : tie.After-put-two = search needs in
+    let buckets = buckets-put two in
+    writes-same (heap-whole _ _ _ _) (writes-then (writes-then (word-put buckets .put-word .ensures) (buckets .put-field .ensures)) (two .put-two .ensures))
 
 pub write-heap-spec : {M : Type 1} → statement M
 write-heap-spec =

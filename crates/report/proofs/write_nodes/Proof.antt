@@ -23,27 +23,40 @@ loop-holds : tie.Need-loop-holds Inv-loop μ-loop
 unfolding nodeLines
 loop-holds c = (search needs, writes-nothing _ _ (omega arith))
 
+-- The places that the answers name: the start, the loop, inside it, and the line of a node written.
+abbrev start : tie.At-loop Inv-loop μ-loop → tie.Start Inv-loop μ-loop
+start c = search needs
+
+abbrev loop-of : tie.In-loop Inv-loop μ-loop → tie.At-loop Inv-loop μ-loop
+loop-of c = search needs
+
+abbrev inside : tie.After-write-node Inv-loop μ-loop → tie.In-loop Inv-loop μ-loop
+inside c = search needs
+
 write-node-requires : tie.Need-write-node-requires Inv-loop μ-loop
 write-node-requires c κs =
-    let loop = c .before .before .before .before .loop in
-    let first = c .before .before .before .before .before .before .before .before in
+    let within : tie.In-loop Inv-loop μ-loop = search needs in
+    let loop = loop-of within .loop in
+    let s = start (loop-of within) in
     omega (
       arith,
-      nodes-most (loop .v) (first .args .distances .now) (first .args .parents .now),
+      nodes-most (loop .v) (s .args .distances .now) (s .args .parents .now),
       loop .inv .1 .behind,
       writes-length (loop .inv .1),
-      first .pre .0,
-      c .before .before .before .loop-test .taken,
+      s .pre .0,
+      within .loop-test .taken,
     )
 
 loop-again : tie.Need-loop-again Inv-loop μ-loop
 loop-again c =
-    let loop = c .before .before .before .before .before .before .before .loop in
-    let first = c .before .before .before .before .before .before .before .before .before .before .before in (
+    let node : tie.After-write-node Inv-loop μ-loop = search needs in
+    let at-loop = loop-of (inside node) in
+    let loop = at-loop .loop in
+    let given = start at-loop .args in (
       search needs,
       rw (add-one (loop .v))
-          (writes-same (nodes-next (loop .v) (first .args .distances .now) (first .args .parents .now))
-          (writes-then (loop .inv .1) (c .before .before .write-node .ensures))),
+          (writes-same (nodes-next (loop .v) (given .distances .now) (given .parents .now))
+          (writes-then (loop .inv .1) (node .write-node .ensures))),
     )
 
 same-length : tie.Need-same-length Inv-loop μ-loop
@@ -51,7 +64,7 @@ same-length c = writes-length (c .before .loop .inv .1)
 
 returns : tie.Need-returns Inv-loop μ-loop
 returns c =
-    let all : c .before .loop .v ≡ c .before .before .before .before .before .args .nodes = omega arith in
+    let all : c .before .loop .v ≡ start (c .before) .args .nodes = omega arith in
     rw all at (c .before .loop .inv .1)
 
 pub write-nodes-spec : {M : Type 1} → statement M

@@ -5,10 +5,14 @@ use Rattle.report.proofs.Lines.{refused-whole}
 use Rattle.report.proofs.write_refusal.Statement.{statement}
 use Rattle.report.proofs.write_refusal.Tie as tie
 
+-- The word written, before both numbers.
+abbrev word-put : tie.After-put-two → tie.After-put-word
+word-put c = search needs
+
 returns : tie.Need-returns
 returns c =
-    writes-same (refused-whole _ _)
-    (writes-then (c .before .before .before .before .before .before .put-word .ensures) (c .before .before .put-two .ensures))
+    let two : tie.After-put-two = search needs in
+    writes-same (refused-whole _ _) (writes-then (word-put two .put-word .ensures) (two .put-two .ensures))
 
 pub write-refusal-spec : {M : Type 1} → statement M
 write-refusal-spec =

@@ -12,7 +12,7 @@ use Rattle.search.proofs.run.Tie as tie
 -- The lists when the source is labelled.
 module _ (c : tie.After-start) where
   abbrev entry : tie.Start
-  entry = c .before .before .before .before .before .before .before .before .before .before .before .before
+  entry = search needs
 
   steps : {X : Setting (entry .args .layout) (entry .args .sizes .now)}
       → Runs X (mapOf (entry .args .layout .nodes) (entry .args .starts .now) (entry .args .heads .now) (entry .args .costs .now)) (entry .args .source .0)
@@ -23,7 +23,7 @@ module _ (c : tie.After-start) where
 
 scan-all-requires : tie.Need-scan-all-requires
 scan-all-requires c κs =
-    let d = c .before .before .before .before .before .before .before .before .before .before in
+    let d : tie.After-start = search needs in
     let p = entry d .pre in
     record {
       setting = p .setting;
@@ -33,10 +33,14 @@ scan-all-requires c κs =
       steps = steps d (p .runs);
     }
 
+abbrev started : tie.After-scan-all → tie.After-start
+started c = search needs
+
 returns : tie.Need-returns
-returns c =
-    let d = c .before .before .before .before .before .before .before .before .before .before .before .before .before .before .before .before .before .before .before in
-    λ X R. c .before .before .before .before .before .before .before .before .scan-all .ensures X (entry d .args .source .0) (entry d .args .roster .now) (heapStart (X .network) (X .shape)) (steps d R)
+returns c X R =
+    let left : tie.After-scan-all = search needs in
+    let d = started left in
+    left .scan-all .ensures X (entry d .args .source .0) (entry d .args .roster .now) (heapStart (X .network) (X .shape)) (steps d R)
 
 pub run-spec : {M : Type 1} → statement M
 run-spec =

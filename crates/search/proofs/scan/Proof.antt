@@ -16,25 +16,30 @@ Inv-loop words₀ distances₀ parents₀ sizes heads costs layout first last re
 abbrev μ-loop : tie.MeasureT-loop
 μ-loop words₀ distances₀ parents₀ sizes heads costs layout first last reached₀ a₀ words distances parents reached a = last - a
 
+-- The places that the answers name: the start, and the loop of the arc taken.
+abbrev start : tie.At-loop Inv-loop μ-loop → tie.Start Inv-loop μ-loop
+start c = search needs
+
+abbrev loop-of : tie.After-relax Inv-loop μ-loop → tie.At-loop Inv-loop μ-loop
+loop-of c = search needs
+
 loop-holds : tie.Need-loop-holds Inv-loop μ-loop
-loop-holds c = (refl, refl, refl, scanned-start (c .before .before .before .before .before .before .pre .scans .rising))
-
-shared-slice-read-t22 : tie.Need-shared-slice-read-t22 Inv-loop μ-loop
-shared-slice-read-t22 c = omega (arith, c .before .before .before .before .before .before .before .before .before .before .before .before .pre .scans .heads-long)
-
-cast-t24 : tie.Need-cast-t24 Inv-loop μ-loop
-cast-t24 c = omega (arith, c .before .before .before .before .before .before .before .before .before .before .before .before .pre .scans .few)
+loop-holds c = let s : tie.Start Inv-loop μ-loop = search needs in (refl, refl, refl, scanned-start (s .pre .scans .rising))
 
 shared-slice-read-relax : tie.Need-shared-slice-read-relax Inv-loop μ-loop
-shared-slice-read-relax c = omega (arith, c .before .before .before .before .before .before .before .before .before .before .before .before .before .pre .scans .costs-long)
+shared-slice-read-relax c = let at-loop : tie.At-loop Inv-loop μ-loop = search needs in omega (arith, start at-loop .pre .scans .costs-long)
 
 relax-requires : tie.Need-relax-requires Inv-loop μ-loop
-relax-requires c κs = scanned-some (c .before .before .before .before .before .before .loop .inv .3) (c .before .before .before .before .before .before .before .before .before .before .before .before .before .pre) (omega arith)
+relax-requires c κs = let at-loop : tie.At-loop Inv-loop μ-loop = search needs in scanned-some (at-loop .loop .inv .3) (start at-loop .pre) (omega arith)
 
 loop-again : tie.Need-loop-again Inv-loop μ-loop
-loop-again c =
-    let made = c .before .before .before .before .before .before .relax .ensures in
-    (search needs, search needs, search needs, scanned-next (c .before .before .before .before .before .before .before .before .before .before .before .before .before .loop .inv .3) (omega arith) (made .0) (made .1))
+loop-again c = (
+  search needs,
+  search needs,
+  search needs,
+  let relaxed : tie.After-relax Inv-loop μ-loop = search needs in
+      scanned-next (loop-of relaxed .loop .inv .3) (omega arith) (relaxed .relax .ensures .0) (relaxed .relax .ensures .1),
+)
 
 returns : tie.Need-returns Inv-loop μ-loop
 returns c = let D = c .before .loop .inv .3 in (scanned-end D (omega arith), D .front)
@@ -47,8 +52,8 @@ scan-spec =
     μ-loop
     loop-holds
     (λ c. search needs)
-    shared-slice-read-t22
-    cast-t24
+    (λ c. let at-loop : tie.At-loop Inv-loop μ-loop = search needs in omega (arith, start at-loop .pre .scans .heads-long))
+    (λ c. let at-loop : tie.At-loop Inv-loop μ-loop = search needs in omega (arith, start at-loop .pre .scans .few))
     (λ c. search needs)
     shared-slice-read-relax
     relax-requires

@@ -19,16 +19,26 @@ abbrev μ-loop : tie.MeasureT-loop
 loop-holds : tie.Need-loop-holds Inv-loop μ-loop
 loop-holds c = (refl, refl, refl, refl, stepped-start)
 
+-- The places that the answers name: the start, the loop, a node removed, and its arcs taken.
+abbrev start : tie.At-loop Inv-loop μ-loop → tie.Start Inv-loop μ-loop
+start c = search needs
+
+abbrev loop-of : tie.After-remove Inv-loop μ-loop → tie.At-loop Inv-loop μ-loop
+loop-of c = search needs
+
+abbrev removed : tie.After-scan Inv-loop μ-loop → tie.After-remove Inv-loop μ-loop
+removed c = search needs
+
 remove-requires : tie.Need-remove-requires Inv-loop μ-loop
-remove-requires c κs = stepped-rests (c .before .before .before .before .before .loop .inv .4) (omega arith) (c .before .before .before .before .before .before .before .before .before .before .before .before .before .before .pre)
+remove-requires c κs = let at-loop : tie.At-loop Inv-loop μ-loop = search needs in stepped-rests (at-loop .loop .inv .4) (omega arith) (start at-loop .pre)
 
 -- The step when its node is removed.
 module _ (c : tie.After-remove Inv-loop μ-loop) where
   abbrev step : tie.At-loop Inv-loop μ-loop
-  step = c .before .before .before .before .before .before
+  step = loop-of c
 
   abbrev entry : tie.Start Inv-loop μ-loop
-  entry = step .before .before .before .before .before .before .before .before .before
+  entry = start step
 
   less : step .loop .step .reached < step .loop .step .tally .insertions
   less = omega arith
@@ -37,39 +47,52 @@ module _ (c : tie.After-remove Inv-loop μ-loop) where
   node = stepped-node (step .loop .inv .4) less (c .remove .ensures) (entry .pre)
 
 shared-slice-read-first : tie.Need-shared-slice-read-first Inv-loop μ-loop
-shared-slice-read-first c = omega (arith, node (c .before .before .before .before .before .before))
+shared-slice-read-first c = let r : tie.After-remove Inv-loop μ-loop = search needs in omega (arith, node r)
 
 cast-first : tie.Need-cast-first Inv-loop μ-loop
-cast-first c = omega (arith, c .shared-slice-known5 .given (c .before .before .before .before .before .before .remove .result .node .0))
+cast-first c =
+    let r : tie.After-remove Inv-loop μ-loop = search needs in
+    let s = stepped-scans (step r .loop .inv .4) (less r) (r .remove .ensures) (entry r .pre) .scans in
+    omega (arith, s .rising, s .few)
 
 add-last : tie.Need-add-last Inv-loop μ-loop
-add-last c = omega (arith, node (c .before .before .before .before .before .before))
+add-last c = let r : tie.After-remove Inv-loop μ-loop = search needs in omega (arith, node r)
 
 shared-slice-read-last : tie.Need-shared-slice-read-last Inv-loop μ-loop
-shared-slice-read-last c = omega (arith, node (c .before .before .before .before .before .before .before))
+shared-slice-read-last c = let r : tie.After-remove Inv-loop μ-loop = search needs in omega (arith, node r)
 
 cast-last : tie.Need-cast-last Inv-loop μ-loop
-cast-last c = omega (arith, c .shared-slice-known6 .given (c .before .before .before .before .before .before .before .remove .result .node .0 + 1))
+cast-last c =
+    let r : tie.After-remove Inv-loop μ-loop = search needs in
+    omega (arith, stepped-scans (step r .loop .inv .4) (less r) (r .remove .ensures) (entry r .pre) .scans .few)
 
 scan-requires : tie.Need-scan-requires Inv-loop μ-loop
 scan-requires c κs =
-    let r = c .before .before .before .before .before .before .before .before .before .before in
+    let r : tie.After-remove Inv-loop μ-loop = search needs in
     stepped-scans (step r .loop .inv .4) (less r) (r .remove .ensures) (entry r .pre)
 
 loop-less : tie.Need-loop-less Inv-loop μ-loop
 loop-less c =
-    let r = c .before .before .before .before .before .before .before .before .before .before .before .before .before .before .before .before .before in
-    let made = c .before .before .before .before .before .before .scan .ensures in
+    let scanned : tie.After-scan Inv-loop μ-loop = search needs in
+    let r = removed scanned in
+    let made = scanned .scan .ensures in
     stepped-less (step r .loop .inv .4) (less r) (r .remove .ensures) (made .0) (made .1) (entry r .pre)
 
 loop-again : tie.Need-loop-again Inv-loop μ-loop
 loop-again c =
-    let r = c .before .before .before .before .before .before .before .before .before .before .before .before .before .before .before .before .before in
-    let made = c .before .before .before .before .before .before .scan .ensures in
-    (search needs, search needs, search needs, search needs, stepped-next (step r .loop .inv .4) (less r) (r .remove .ensures) (made .0) (made .1))
+    let scanned : tie.After-scan Inv-loop μ-loop = search needs in
+    let r = removed scanned in
+    let made = scanned .scan .ensures in
+    let inv = step r .loop .inv in (
+      omega (arith, scanned .scan .kept, r .remove .kept, inv .0),
+      omega (arith, scanned .scan .kept, r .remove .kept, inv .1),
+      omega (arith, scanned .scan .kept, r .remove .kept, inv .2),
+      omega (arith, scanned .scan .kept, r .remove .kept, inv .3),
+      stepped-next (inv .4) (less r) (r .remove .ensures) (made .0) (made .1),
+    )
 
 returns : tie.Need-returns Inv-loop μ-loop
-returns c = stepped-end (c .before .before .loop .inv .4) (omega arith)
+returns c = let at-loop : tie.At-loop Inv-loop μ-loop = search needs in stepped-end (at-loop .loop .inv .4) (omega arith)
 
 pub scan-all-spec : {M : Type 1} → statement M
 scan-all-spec =

@@ -10,27 +10,38 @@ use Rattle.search.proofs.Blank.{blankState, bounds-in, start-labels, st
 use Rattle.search.proofs.start.Statement.{statement}
 use Rattle.search.proofs.start.Tie as tie
 
+-- The places that the answers name: the start, the lists filled, and the first bounds written.
+abbrev before-words : tie.After-fill → tie.Start
+before-words c = search needs
+
+abbrev before-distances : tie.After-fill2 → tie.After-fill
+before-distances c = search needs
+
+abbrev before-parents : tie.After-fill3 → tie.After-fill2
+before-parents c = search needs
+
+abbrev before-bounds : tie.After-first-bounds → tie.After-fill3
+before-bounds c = search needs
+
 first-bounds-requires : tie.Need-first-bounds-requires
 first-bounds-requires c κs =
-    let p = c .before .before .before .before .before .before .before .before .before .before .before .before .before .before .before .before .before .pre in
-    (bounds-in (p .starts) (c .before .before .before .before .before .before .before .before .before .before .before .fill .ensures), p .setting .agrees .sized)
+    let filled : tie.After-fill = search needs in
+    let p = before-words filled .pre in
+    (bounds-in (p .starts) (filled .fill .ensures), p .setting .agrees .sized)
 
 -- The lists when the source is labelled.
-module _ (c : tie.After-label-arg3) where
-  abbrev first-set : tie.After-first-bounds
-  first-set = c .before .before .before .before .before
-
+module _ (first-set : tie.After-first-bounds) where
   abbrev parents-filled : tie.After-fill3
-  parents-filled = first-set .before .before .before .before
+  parents-filled = before-bounds first-set
 
   abbrev distances-filled : tie.After-fill2
-  distances-filled = parents-filled .before .before .before .before
+  distances-filled = before-parents parents-filled
 
   abbrev words-filled : tie.After-fill
-  words-filled = distances-filled .before .before .before .before
+  words-filled = before-distances distances-filled
 
   abbrev entry : tie.Start
-  entry = words-filled .before .before .before .before .before .before
+  entry = before-words words-filled
 
   labels : {X : Setting (entry .args .layout) (entry .args .sizes .now)}
       → Starts X (entry .args .words .now) (entry .args .distances .now) (entry .args .parents .now) (entry .args .top) (entry .args .source .0)
@@ -42,13 +53,18 @@ module _ (c : tie.After-label-arg3) where
 
 label-requires : tie.Need-label-requires
 label-requires c κs =
-    let p = entry c .pre in
-    record { setting = p .setting; before = []; roster = []; heap = heapBlank (p .setting .network) (p .setting .shape); labels = labels c (p .starts) [] }
+    let b : tie.After-first-bounds = search needs in
+    let p = entry b .pre in
+    record { setting = p .setting; before = []; roster = []; heap = heapBlank (p .setting .network) (p .setting .shape); labels = labels b (p .starts) [] }
+
+abbrev before-label : tie.After-label → tie.After-first-bounds
+before-label c = search needs
 
 returns : tie.Need-returns
 returns c =
-    let made = c .before .before .before .before .before .before .label .ensures in
-    (λ X before S. rw (← (started S)) (made .0 X before before (heapBlank (X .network) (X .shape)) (labels (c .before .before .before .before .before .before .before) S before)), made .1)
+    let labelled : tie.After-label = search needs in
+    let made = labelled .label .ensures in
+    (λ X before S. rw (← (started S)) (made .0 X before before (heapBlank (X .network) (X .shape)) (labels (before-label labelled) S before)), made .1)
 
 pub start-spec : {M : Type 1} → statement M
 start-spec =

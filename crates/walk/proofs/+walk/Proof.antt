@@ -18,7 +18,7 @@ use Rattle.walk.proofs.+walk.{statement}
 use Rattle.walk.proofs.+walk.Tie.{close}
 
 abbrev μ-walk : Measures 4 walk-kinds.ps ℕ
-μ-walk κs a = a .1 .1 .1 .1 .1 .1 .1 .0
+μ-walk κs a = let lists = a .1 .1 in let walked = lists .1 .1 .1 .1 in walked .1 .0
 
 -- what `walk` is given with t arcs allowed, and what its call of itself asks with fewer
 abbrev walk-at : ℕ → In 4 walk-kinds.ps
@@ -41,61 +41,115 @@ claims t = (
   write-behind.Learnt,
 )
 
-arrive-requires : (t : ℕ) → lts.Need-arrive-requires (claims t) (walk-at t) walk.Post
-arrive-requires t c κs = tt
+module _ (t : ℕ) where
+  -- The places that the answers name: the start, away from the source, an arc allowed, the parent looked at, found to lead to v, its tail
+  -- found, and the walk from there.
+  abbrev Start : Type 0
+  Start = lts.Start (claims t) (walk-at t) walk.Post
 
-same-length : (t : ℕ) → lts.Need-same-length (claims t) (walk-at t) walk.Post
-same-length t c = search needs
+  abbrev Else1 : Type 0
+  Else1 = lts.Else1 (claims t) (walk-at t) walk.Post
 
-returns : (t : ℕ) → lts.Need-returns (claims t) (walk-at t) walk.Post
-returns t c = rw (back-source _ _ _ _ _ _ _ (c .before .before .before .before .if1 .taken)) (c .before .before .arrive .ensures)
+  abbrev Else2 : Type 0
+  Else2 = lts.Else2 (claims t) (walk-at t) walk.Post
 
-returns-2 : (t : ℕ) → lts.Need-returns-2 (claims t) (walk-at t) walk.Post
-returns-2 t c =
-    let e = c .if2 .taken in
-    lost-walk _ _ (rw e (back-stops _ _ _ _ _ _ (c .before .if1 .left)))
+  abbrev After-leads-to : Type 0
+  After-leads-to = lts.After-leads-to (claims t) (walk-at t) walk.Post
 
-cast-t16 : (t : ℕ) → lts.Need-cast-t16 (claims t) (walk-at t) walk.Post
-cast-t16 t c = search needs
+  abbrev Else3 : Type 0
+  Else3 = lts.Else3 (claims t) (walk-at t) walk.Post
 
-mul-t17 : (t : ℕ) → lts.Need-mul-t17 (claims t) (walk-at t) walk.Post
-mul-t17 t c = search needs
+  abbrev After-tail-of : Type 0
+  After-tail-of = lts.After-tail-of (claims t) (walk-at t) walk.Post
 
-shared-slice-read-t19 : (t : ℕ) → lts.Need-shared-slice-read-t19 (claims t) (walk-at t) walk.Post
-shared-slice-read-t19 t c = parent-inside (c .before .before .before .before .before .before .before .before .before .before .pre .1)
+  abbrev After-walk : Type 0
+  After-walk = lts.After-walk (claims t) (walk-at t) walk.Post
 
-leads-to-requires : (t : ℕ) → lts.Need-leads-to-requires (claims t) (walk-at t) walk.Post
-leads-to-requires t c κs = tt
+  abbrev start : Else1 → Start
+  start c = search needs
 
-returns-3 : (t : ℕ) → lts.Need-returns-3 (claims t) (walk-at t) walk.Post
-returns-3 t c =
-    let w = c .before .before .before .before .before .before .before .before .before .before .before .before .pre .1 in
-    lost-walk _ _ (back-misfit _ _ _ _ _ _ _ (c .before .before .before .before .before .if1 .left) (misfit w (c .before .leads-to .ensures) (not-true _ (c .if3 .taken))))
+  abbrev away : Else2 → Else1
+  away c = search needs
 
-tail-of-requires : (t : ℕ) → lts.Need-tail-of-requires (claims t) (walk-at t) walk.Post
-tail-of-requires t c κs = arc-fits (c .before .before .before .before .before .before .before .before .before .before .before .before .pre .1) (c .before .leads-to .ensures) (not-false _ (c .if3 .left))
+  abbrev allowed : After-leads-to → Else2
+  allowed c = search needs
 
-sub-walk : (t : ℕ) → lts.Need-sub-walk (claims t) (walk-at t) walk.Post
-sub-walk t c = omega (arith, c .before .before .before .before .before .before .if2 .left)
+  abbrev looked-at : Else3 → After-leads-to
+  looked-at c = search needs
 
-add-walk : (t : ℕ) → lts.Need-add-walk (claims t) (walk-at t) walk.Post
-add-walk t c = let w = c .before .before .before .before .before .before .before .before .before .before .before .before .before .before .pre .1 in omega (arith, w .short, w .table .valid .few-nodes)
+  abbrev leading : After-tail-of → Else3
+  leading c = search needs
 
-walk-requires : (t : ℕ) → lts.Need-walk-requires (claims t) (walk-at t) walk.Post
-walk-requires t c κs =
-    let w = c .before .before .before .before .before .before .before .before .before .before .before .before .before .before .pre .1 in
-    (omega (arith, c .before .before .before .before .before .before .if2 .left, c .before .before .before .before .before .before .before .before .before .before .before .before .before .before .pre .0), walks-on w (c .before .tail-of .ensures) (omega (arith, c .before .before .before .before .before .before .if2 .left)))
+  abbrev tailed : After-walk → After-tail-of
+  tailed c = search needs
 
-write-behind-requires : (t : ℕ) → lts.Need-write-behind-requires (claims t) (walk-at t) walk.Post
-write-behind-requires t c κs = let e = c .before .before .before .walk .ensures in came-back _ _ _ (e .0) (e .1)
+  abbrev entry : Else2 → Start
+  entry c = start (away c)
 
-same-length-2 : (t : ℕ) → lts.Need-same-length-2 (claims t) (walk-at t) walk.Post
-same-length-2 t c = search needs
+  arrive-requires : lts.Need-arrive-requires (claims t) (walk-at t) walk.Post
+  arrive-requires c κs = tt
 
-returns-4 : (t : ℕ) → lts.Need-returns-4 (claims t) (walk-at t) walk.Post
-returns-4 t c =
-    walked-on (c .before .before .before .before .before .before .before .before .before .before .before .before .before .before .before .before .before .before .before .before .before .pre .1) (c .before .before .before .before .before .before .before .before .tail-of .result .0) (c .before .before .before .before .before .before .before .before .before .before .before .before .before .before .if1 .left) (sym (c .before .before .before .before .before .before .before .before .before .before .leads-to .ensures) ∙ not-false _ (c .before .before .before .before .before .before .before .before .before .if3 .left)) (c .before .before .before .before .before .before .before .before .tail-of .ensures)
-    (omega (arith, c .before .before .before .before .before .before .before .before .before .before .before .before .before .if2 .left)) _ (c .before .before .before .before .before .before .walk .ensures) (c .before .before .write-behind .ensures)
+  same-length : lts.Need-same-length (claims t) (walk-at t) walk.Post
+  same-length c = search needs
+
+  returns : lts.Need-returns (claims t) (walk-at t) walk.Post
+  returns c = rw (back-source _ _ _ _ _ _ _ (c .before .before .before .before .if1 .taken)) (c .before .before .arrive .ensures)
+
+  returns-2 : lts.Need-returns-2 (claims t) (walk-at t) walk.Post
+  returns-2 c =
+      let e = c .if2 .taken in
+      lost-walk _ _ (rw e (back-stops _ _ _ _ _ _ (c .before .if1 .left)))
+
+  cast-t16 : lts.Need-cast-t16 (claims t) (walk-at t) walk.Post
+  cast-t16 c = search needs
+
+  mul-t17 : lts.Need-mul-t17 (claims t) (walk-at t) walk.Post
+  mul-t17 c = search needs
+
+  shared-slice-read-t19 : lts.Need-shared-slice-read-t19 (claims t) (walk-at t) walk.Post
+  shared-slice-read-t19 c = let a : Else2 = search needs in parent-inside (entry a .pre .1)
+
+  leads-to-requires : lts.Need-leads-to-requires (claims t) (walk-at t) walk.Post
+  leads-to-requires c κs = tt
+
+  returns-3 : lts.Need-returns-3 (claims t) (walk-at t) walk.Post
+  returns-3 c =
+      let l : After-leads-to = search needs in
+      let a = allowed l in
+      lost-walk _ _ (back-misfit _ _ _ _ _ _ _ (away a .if1 .left) (misfit (entry a .pre .1) (l .leads-to .ensures) (not-true _ (c .if3 .taken))))
+
+  tail-of-requires : lts.Need-tail-of-requires (claims t) (walk-at t) walk.Post
+  tail-of-requires c κs =
+      let l : After-leads-to = search needs in arc-fits (entry (allowed l) .pre .1) (l .leads-to .ensures) (not-false _ (c .if3 .left))
+
+  sub-walk : lts.Need-sub-walk (claims t) (walk-at t) walk.Post
+  sub-walk c = let a : Else2 = search needs in omega (arith, a .if2 .left)
+
+  add-walk : lts.Need-add-walk (claims t) (walk-at t) walk.Post
+  add-walk c = let a : Else2 = search needs in let w = entry a .pre .1 in omega (arith, w .short, w .table .valid .few-nodes)
+
+  walk-requires : lts.Need-walk-requires (claims t) (walk-at t) walk.Post
+  walk-requires c κs =
+      let f : After-tail-of = search needs in
+      let a = allowed (looked-at (leading f)) in
+      let p = entry a .pre in
+      (omega (arith, a .if2 .left, p .0), walks-on (p .1) (f .tail-of .ensures) (omega (arith, a .if2 .left)))
+
+  write-behind-requires : lts.Need-write-behind-requires (claims t) (walk-at t) walk.Post
+  write-behind-requires c κs = let w : After-walk = search needs in came-back _ _ _ (w .walk .ensures .0) (w .walk .ensures .1)
+
+  same-length-2 : lts.Need-same-length-2 (claims t) (walk-at t) walk.Post
+  same-length-2 c = search needs
+
+  returns-4 : lts.Need-returns-4 (claims t) (walk-at t) walk.Post
+  returns-4 c =
+      let w : After-walk = search needs in
+      let f = tailed w in
+      let g = leading f in
+      let l = looked-at g in
+      let a = allowed l in
+      walked-on (entry a .pre .1) (f .tail-of .result .0) (away a .if1 .left) (sym (l .leads-to .ensures) ∙ not-false _ (g .if3 .left)) (f .tail-of .ensures)
+      (omega (arith, a .if2 .left)) _ (w .walk .ensures) (c .before .before .write-behind .ensures)
 
 pub +walk-spec : {M : Type 1} → statement M
 +walk-spec =

@@ -20,20 +20,32 @@ abbrev μ-loop : tie.MeasureT-loop
 loop-holds : tie.Need-loop-holds Inv-loop μ-loop
 loop-holds c = (search needs, writes-nothing _ _ (omega arith))
 
+-- The places that the answers name: the start, the loop, inside it, and a byte written.
+abbrev start : tie.At-loop Inv-loop μ-loop → tie.Start Inv-loop μ-loop
+start c = search needs
+
+abbrev loop-of : tie.In-loop Inv-loop μ-loop → tie.At-loop Inv-loop μ-loop
+loop-of c = search needs
+
+abbrev inside : tie.After-put-byte Inv-loop μ-loop → tie.In-loop Inv-loop μ-loop
+inside c = search needs
+
 put-byte-requires : tie.Need-put-byte-requires Inv-loop μ-loop
 put-byte-requires c κs =
-    let loop = c .before .before .before .loop in
-    let bytes = c .before .before .before .before .before .before .args .bytes .now in
-    omega (arith, length-take-le (loop .i) bytes (loop .inv .0), loop .inv .1 .behind, writes-length (loop .inv .1))
+    let at-loop : tie.At-loop Inv-loop μ-loop = search needs in
+    let loop = at-loop .loop in
+    omega (arith, length-take-le (loop .i) (start at-loop .args .bytes .now) (loop .inv .0), loop .inv .1 .behind, writes-length (loop .inv .1))
 
 loop-again : tie.Need-loop-again Inv-loop μ-loop
 loop-again c =
-    let loop = c .before .before .before .before .before .before .loop in
-    let bytes = c .before .before .before .before .before .before .before .before .before .args .bytes .now in
-    let inside : loop .i < length bytes = c .before .before .before .before .before .loop-test .taken in (
+    let put : tie.After-put-byte Inv-loop μ-loop = search needs in
+    let at-loop = loop-of (inside put) in
+    let loop = at-loop .loop in
+    let bytes = start at-loop .args .bytes .now in
+    let within : loop .i < length bytes = inside put .loop-test .taken in (
       search needs,
-      rw (add-one (loop .i), take-suc bytes (loop .i) 0 inside)
-          (writes-then (loop .inv .1) (c .before .before .put-byte .ensures)),
+      rw (add-one (loop .i), take-suc bytes (loop .i) 0 within)
+          (writes-then (loop .inv .1) (put .put-byte .ensures)),
     )
 
 same-length : tie.Need-same-length Inv-loop μ-loop
@@ -42,7 +54,7 @@ same-length c = writes-length (c .before .loop .inv .1)
 returns : tie.Need-returns Inv-loop μ-loop
 returns c =
     let loop = c .before .loop in
-    let bytes = c .before .before .before .before .args .bytes .now in
+    let bytes = start (c .before) .args .bytes .now in
     let all : loop .i ≡ length bytes = omega arith in
     writes-same (rw (all, take-length bytes)) (loop .inv .1)
 

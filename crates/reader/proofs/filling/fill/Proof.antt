@@ -20,64 +20,74 @@ abbrev μ-loop : tie.MeasureT-loop
 
 -- ---- a line of the loop
 
+-- The places that the answers name: the start, the loop, inside it, a line asked for, its arc, and the starts filled up to its tail.
 abbrev entry : tie.At-loop Inv-loop μ-loop → tie.Start Inv-loop μ-loop
-entry c = c .before .before .before .before .before
+entry c = search needs
+
+abbrev loop-of : tie.In-loop Inv-loop μ-loop → tie.At-loop Inv-loop μ-loop
+loop-of c = search needs
+
+abbrev inside : tie.After-arc-line-at Inv-loop μ-loop → tie.In-loop Inv-loop μ-loop
+inside c = search needs
+
+abbrev asked : tie.After-tail Inv-loop μ-loop → tie.After-arc-line-at Inv-loop μ-loop
+asked c = search needs
+
+abbrev arc-of : tie.After-fill-between Inv-loop μ-loop → tie.After-tail Inv-loop μ-loop
+arc-of c = search needs
 
 missing : (c : tie.After-enum-told Inv-loop μ-loop) → ⊥
 missing c =
-    line-read (c .before .before .before .before .loop .inv) (c .before .before .before .loop-test .taken)
-    (sym (c .before .before .arc-line-at .ensures) ∙ c .enum-told .given .1)
+    let a : tie.After-arc-line-at Inv-loop μ-loop = search needs in
+    line-read (loop-of (inside a) .loop .inv) (inside a .loop-test .taken) (sym (a .arc-line-at .ensures) ∙ c .enum-told .given .1)
 
-abbrev turn : tie.After-known-told Inv-loop μ-loop → tie.In-loop Inv-loop μ-loop
-turn c = c .before .before .before .before
+module _ (c : tie.After-tail Inv-loop μ-loop) where
+  abbrev turn : tie.In-loop Inv-loop μ-loop
+  turn = inside (asked c)
 
-arc-read : (c : tie.After-known-told Inv-loop μ-loop)
-    → arcLine (drop (turn c .before .loop .line) (entry (turn c .before) .args .bytes .now))
-    ≡ ArcRead (c .before .tail .given .0 .0) (c .before .tail .given .0 .1 .0) (c .before .tail .given .0 .1 .1 .0) (c .before .tail .given .0 .1 .1 .1 .0)
-arc-read c = sym (c .before .before .before .arc-line-at .ensures) ∙ c .before .tail .given .1
+  abbrev l : tie.At-loop Inv-loop μ-loop
+  l = loop-of turn
 
-tail-fits : (c : tie.After-known-told Inv-loop μ-loop) → c .before .tail .given .0 .0 < entry (turn c .before) .args .n
-tail-fits c = shown (turn c .before .loop .inv) (turn c .loop-test .taken) (arc-read c) .tail-node
+  arc-read : arcLine (drop (l .loop .line) (entry l .args .bytes .now)) ≡ ArcRead (c .tail .given .0 .0) (c .tail .given .0 .1 .0) (c .tail .given .0 .1 .1 .0) (c .tail .given .0 .1 .1 .1 .0)
+  arc-read = sym (asked c .arc-line-at .ensures) ∙ c .tail .given .1
+
+  tail-fits : c .tail .given .0 .0 < entry l .args .n
+  tail-fits = shown (l .loop .inv) (turn .loop-test .taken) arc-read .tail-node
 
 cast-end : tie.Need-cast-end Inv-loop μ-loop
-cast-end c = omega (arith, tail-fits c)
+cast-end c = let a : tie.After-tail Inv-loop μ-loop = search needs in omega (arith, tail-fits a)
 
 add-end : tie.Need-add-end Inv-loop μ-loop
-add-end c = omega (arith, tail-fits c)
+add-end c = let a : tie.After-tail Inv-loop μ-loop = search needs in omega (arith, tail-fits a)
 
 fill-between-requires : tie.Need-fill-between-requires Inv-loop μ-loop
 fill-between-requires c κs =
-    let d = c .before in
-    let p = turn d .before .loop .inv in
-    (next-not-past p (turn d .loop-test .taken) (arc-read d), omega (arith, tail-fits d, starts-same-length p, p .given .starts-fit))
+    let a : tie.After-tail Inv-loop μ-loop = search needs in
+    let p = l a .loop .inv in
+    (next-not-past p (turn a .loop-test .taken) (arc-read a), omega (arith, tail-fits a, starts-same-length p, p .given .starts-fit))
 
 -- the starts are set up to the tail
-abbrev told : tie.After-slice-known4 Inv-loop μ-loop → tie.After-known-told Inv-loop μ-loop
-told c = c .before .before .before .before
+head-fits : (c : tie.In-loop Inv-loop μ-loop) → loop-of c .loop .i < length (loop-of c .loop .heads)
+head-fits c = let p = loop-of c .loop .inv in omega (arith, c .loop-test .taken, heads-same-length p, p .given .heads-fit)
 
-head-fits : (c : tie.After-slice-known4 Inv-loop μ-loop) → turn (told c) .before .loop .i < length (turn (told c) .before .loop .heads)
-head-fits c =
-    let d = turn (told c) in
-    let p = d .before .loop .inv in
-    omega (arith, d .loop-test .taken, heads-same-length p, p .given .heads-fit)
-
-cost-fits : (c : tie.After-slice-known4 Inv-loop μ-loop) → turn (told c) .before .loop .i < length (turn (told c) .before .loop .costs)
-cost-fits c =
-    let d = turn (told c) in
-    let p = d .before .loop .inv in
-    omega (arith, d .loop-test .taken, costs-same-length p, p .given .costs-fit)
+cost-fits : (c : tie.In-loop Inv-loop μ-loop) → loop-of c .loop .i < length (loop-of c .loop .costs)
+cost-fits c = let p = loop-of c .loop .inv in omega (arith, c .loop-test .taken, costs-same-length p, p .given .costs-fit)
 
 add-line : tie.Need-add-line Inv-loop μ-loop
 add-line c =
-    let d = told c in
-    omega (arith, behind-within (entry (turn d .before) .args .bytes .now) (turn d .before .loop .line) (turn d .before .loop .inv .within) (arc-read d))
+    let a : tie.After-tail Inv-loop μ-loop = search needs in
+    omega (arith, behind-within (entry (l a) .args .bytes .now) (l a .loop .line) (l a .loop .inv .within) (arc-read a))
 
 loop-again : tie.Need-loop-again Inv-loop μ-loop
 loop-again c =
-    let d = told c in
-    rw (c .before .before .fill-between .ensures) (progress-next (turn d .before .loop .inv) (turn d .loop-test .taken) (arc-read d))
+    let f : tie.After-fill-between Inv-loop μ-loop = search needs in
+    let a = arc-of f in
+    rw (f .fill-between .ensures) (progress-next (l a .loop .inv) (turn a .loop-test .taken) (arc-read a))
 
 -- ---- behind the loop
+
+abbrev ended : tie.After-fill-between2 Inv-loop μ-loop → tie.After-loop Inv-loop μ-loop
+ended c = search needs
 
 fill-between-requires-2 : tie.Need-fill-between-requires-2 Inv-loop μ-loop
 fill-between-requires-2 c κs =
@@ -85,12 +95,13 @@ fill-between-requires-2 c κs =
     (omega (arith, p .next-fits), omega (arith, starts-same-length p, p .given .starts-fit))
 
 same-length-4 : tie.Need-same-length-4 Inv-loop μ-loop
-same-length-4 c = c .before .before .fill-between2 .kept .0 ∙ starts-same-length (c .before .before .before .before .before .loop .inv)
+same-length-4 c =
+    let f : tie.After-fill-between2 Inv-loop μ-loop = search needs in f .fill-between2 .kept .0 ∙ starts-same-length (ended f .before .loop .inv)
 
 returns-2 : tie.Need-returns-2 Inv-loop μ-loop
 returns-2 c =
-    let last = c .before .before in
-    rw (last .fill-between2 .ensures) (progress-end (last .before .before .before .loop .inv) (last .before .before .loop-test .left))
+    let f : tie.After-fill-between2 Inv-loop μ-loop = search needs in
+    rw (f .fill-between2 .ensures) (progress-end (ended f .before .loop .inv) (ended f .loop-test .left))
 
 pub fill-spec : {M : Type 1} → statement M
 fill-spec =
@@ -108,12 +119,12 @@ fill-spec =
     (λ c. absurd (missing c))
     cast-end
     add-end
-    (λ c. omega (arith, c .before .before .before .before .before .loop-test .taken))
+    (λ c. let i : tie.In-loop Inv-loop μ-loop = search needs in omega (arith, i .loop-test .taken))
     fill-between-requires
-    (λ c. omega (arith, turn (told c) .loop-test .taken))
-    head-fits
-    (λ c. omega (arith, turn (told c) .loop-test .taken))
-    cost-fits
+    (λ c. let i : tie.In-loop Inv-loop μ-loop = search needs in omega (arith, i .loop-test .taken))
+    (λ c. let i : tie.In-loop Inv-loop μ-loop = search needs in head-fits i)
+    (λ c. let i : tie.In-loop Inv-loop μ-loop = search needs in omega (arith, i .loop-test .taken))
+    (λ c. let i : tie.In-loop Inv-loop μ-loop = search needs in cost-fits i)
     add-line
     (λ c. search needs)
     (λ c. search needs)
@@ -121,6 +132,6 @@ fill-spec =
     (λ c. search needs)
     fill-between-requires-2
     same-length-4
-    (λ c. heads-same-length (c .before .before .before .before .before .loop .inv))
-    (λ c. costs-same-length (c .before .before .before .before .before .loop .inv))
+    (λ c. let l : tie.At-loop Inv-loop μ-loop = search needs in heads-same-length (l .loop .inv))
+    (λ c. let l : tie.At-loop Inv-loop μ-loop = search needs in costs-same-length (l .loop .inv))
     returns-2)
