@@ -16,6 +16,10 @@
  * - Words past those that a function fills are untouched. A refusal changes no word but `numbers` (roosternow_answer: but `output`).
  * - There is no state between calls and no global state. Calls may run in several threads at once, and in interrupt handlers, if no list
  *   that one of them writes is used by another at that time. A function calls nothing back, does not block and always returns.
+ * - In an interrupt handler: the code of this archive, as disassembled, uses the general registers and xmm0 to xmm6 (SSE2), nothing of x87,
+ *   MMX or AVX, and no red zone. So a handler saves the SSE registers before a call, and all vector registers if its `memset` uses wider
+ *   ones, as that of a C library may. The stack is aligned to 16 bytes as for every call and has the bytes that the function's "Costs" name;
+ *   `memset` is bound before, by a static link or `-z now`, since a dynamic linker that binds it in the call takes stack of its own.
  * - A function refuses, with a number and a place, whatever it is not to work on (enum roosternow_refusal); nothing has to be checked by
  *   the caller but the rules above.
  * - r is the number of reached nodes, the source included, and B the number of buckets: ceil(log2(C + 1)) + 2 for the one-level heap, at
@@ -51,6 +55,10 @@
 #define ROOSTERNOW_WORK_ONE_LEVEL(n) (4u * (size_t)(n) + 64u)
 #define ROOSTERNOW_WORK_TWO_LEVEL(n) (4u * (size_t)(n) + 384u)
 #define ROOSTERNOW_BY_NODE(n) ((size_t)(n))
+
+/* Bytes of stack to have for roosternow_route on a map of n nodes. For a route of at most p nodes, and a table known to lead back to the
+   source, ROOSTERNOW_ROUTE_STACK(p) is enough. Measured on x86-64 Linux (tests/c/stack), not proved. */
+#define ROOSTERNOW_ROUTE_STACK(n) (160u * (size_t)(n) + 1024u)
 
 /* Words of `numbers`. */
 #define ROOSTERNOW_RUN_NUMBERS 7
@@ -143,6 +151,42 @@ static inline const char *roosternow_refusal_text(uint64_t returned) {
     }
 }
 
+/* The least exponent with which a power of the base, 2 or more, is above the ceiling. */
+static inline uint64_t roosternow_exponent_above(uint64_t base, uint32_t ceiling) {
+    uint64_t exponent = 0;
+    for (uint64_t power = 1; power <= ceiling; power *= base) {
+        exponent++;
+    }
+    return exponent;
+}
+
+/* R times `for_each_node`, and m + 1; 0 for a size that the runs refuse. */
+static inline uint64_t roosternow_most_operations(uint32_t n, uint32_t m, uint32_t ceiling, uint64_t for_each_node) {
+    uint64_t reached = n <= m ? n : (uint64_t)m + 1u;
+    if (n < ROOSTERNOW_LEAST_NODES || n > ROOSTERNOW_MOST_NODES || m > ROOSTERNOW_MOST_ARCS || ceiling > ROOSTERNOW_MOST_CEILING) {
+        return 0;
+    }
+    return reached * for_each_node + m + 1u;
+}
+
+/*
+ * The most heap operations of a run, placements and looks together, on any map with n nodes and m arcs: a budget before a map is known.
+ * With R the smaller of n and m + 1: R * (2 * B - 1) + m + 1 for one level, R * (2 * B + K - 1) + m + 1 for two. 0 for a size that the run
+ * refuses, since a refused run makes none. The largest size, with K = 64, has 241,665 and 364,545.
+ */
+static inline uint64_t roosternow_most_operations_one_level(uint32_t n, uint32_t m, uint32_t ceiling) {
+    uint64_t buckets = roosternow_exponent_above(2, ceiling) + 2u;
+    return roosternow_most_operations(n, m, ceiling, 2u * buckets - 1u);
+}
+
+static inline uint64_t roosternow_most_operations_two_level(uint32_t n, uint32_t m, uint32_t ceiling, uint32_t segments) {
+    if (segments < ROOSTERNOW_LEAST_SEGMENTS || segments > ROOSTERNOW_MOST_SEGMENTS) {
+        return 0;
+    }
+    uint64_t buckets = roosternow_exponent_above(segments, ceiling) + 1u;
+    return roosternow_most_operations(n, m, ceiling, 2u * (buckets < 2u ? 2u : buckets) + segments - 1u);
+}
+
 /*
  * The one-level run: cheapest routes from the source to every node.
  *
@@ -166,8 +210,11 @@ void roosternow_one_level(uint32_t n, uint32_t ceiling, uint32_t source,
                           uint64_t numbers[ROOSTERNOW_LENT(ROOSTERNOW_RUN_NUMBERS)]);
 
 /*
- * The two-level run: the same with `segments` K segments to a bucket, 2 to 64. Larger K is faster on most maps.
+ * The two-level run: the same with `segments` K segments to a bucket, 2 to 64.
  *
+ * Which K: the bound on heap operations is least where 2 * B + K is, which from C = 27 up some K of 4 to 8 attains (for C = 1,048,575
+ *   6 or 8). In time 16 to 64 is fastest on most maps, and 16 on chains (docs/BENCHMARK.md, "How time changes with K"). So a small K where
+ *   a slot is sized by heap operations, and 32 where time counts.
  * Needs: as roosternow_one_level, with ROOSTERNOW_WORK_TWO_LEVEL(n) words of work.
  * Gives: as roosternow_one_level, with distances, parents, r and decreases equal to its own, and ROOSTERNOW_WORK_TWO_LEVEL(n) work words 0.
  * Refuses: 1 to 9, then 10 with place 0 distances, 1 parents, 2 roster, 3 work; in this order, the first found.
@@ -192,7 +239,7 @@ void roosternow_two_level(uint32_t n, uint32_t ceiling, uint32_t source, uint32_
  *   map and source, the route to every reached node is given, and costs its distance.
  * Refuses: 1, 3, 4 (heads alone), 5, 6, 7, 10 with place 1 parents, 14 to 17; in this order, the first found.
  * Costs: time in proportion to n + m, plus log2(n) for each arc of the route; 160 bytes of stack for each node of the route and below 1 KB
- *   besides, at most 656,384 bytes for a route, or a table that goes round, of 4,096 nodes.
+ *   besides, at most 656,384 bytes for a route, or a table that goes round, of 4,096 nodes (ROOSTERNOW_ROUTE_STACK).
  */
 void roosternow_route(uint32_t n, uint32_t source,
                       const uint32_t *starts, size_t starts_words,
