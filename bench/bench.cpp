@@ -114,8 +114,18 @@ static std::vector<Map> growing_arcs() {
     return maps;
 }
 
+// A number from 1 of at most 6 digits; 0 for any other word.
+static int samples_of(const std::string &word) {
+    bool digits = word.find_first_not_of("0123456789") == std::string::npos;
+    return digits && !word.empty() && word[0] != '0' && word.size() <= 6 ? std::stoi(word) : 0;
+}
+
 int main(int count, char **words) {
-    const int samples = count > 1 ? std::max(1, std::atoi(words[1])) : 101;
+    const int samples = count > 1 ? samples_of(words[1]) : 101;
+    if (count > 2 || samples == 0) {
+        std::fprintf(stderr, "use: bench [SAMPLES], a number from 1 of at most 6 digits\n");
+        return 2;
+    }
     const std::vector<Map> maps = measured_maps();
     std::vector<Kind> kinds = {planner_kind("one level", 0), planner_kind("two levels, K 64", 64)};
     const std::vector<Kind> others = peers();

@@ -442,9 +442,19 @@ static void report(uint64_t inputs) {
     }
 }
 
+/* A number from 1 of at most 18 digits; 0 for any other word. */
+static uint64_t number_of(const char *word) {
+    size_t digits = strspn(word, "0123456789");
+    return word[digits] == 0 && word[0] != '0' && digits <= 18 ? strtoull(word, NULL, 10) : 0;
+}
+
 int main(int count, char **words) {
-    uint64_t inputs = count > 1 ? strtoull(words[1], NULL, 10) : 100000;
-    state = count > 2 ? strtoull(words[2], NULL, 10) : UINT64_C(88172645463325252);
+    uint64_t inputs = count > 1 ? number_of(words[1]) : 100000;
+    state = count > 2 ? number_of(words[2]) : UINT64_C(88172645463325252);
+    if (count > 3 || inputs == 0 || state == 0) {
+        fprintf(stderr, "use: calls [INPUTS [SEED]], numbers from 1 of at most 18 digits\n");
+        return 2;
+    }
     make_lists();
     for (input = 0; input < inputs; input++) {
         bool large = input % 10000 == 0;
