@@ -1,0 +1,67 @@
+"""Both heaps and every route from Python, through a shared object made of the archive: routes.py LIBRARY < FILE
+
+The shared object: gcc -shared -o libroosternow.so -Wl,--whole-archive libroosternow.a -Wl,--no-whole-archive
+"""
+import ctypes
+import sys
+
+NODES, ARCS, NONE = 4096, 65536, 4294967295
+
+
+def words(count):
+    return (ctypes.c_uint32 * count)()
+
+
+def first(count, of):
+    """The first words of a list, shared with it."""
+    return (ctypes.c_uint32 * count).from_buffer(of)
+
+
+def number(value):
+    return ctypes.c_uint32(value)
+
+
+def lent(*lists):
+    """Each list as the functions take it: a pointer and the number of its elements."""
+    return [word for each in lists for word in (each, ctypes.c_size_t(len(each)))]
+
+
+def called(function, count, *arguments):
+    """The numbers that a call gives back behind the first two; a refusal is raised."""
+    numbers = (ctypes.c_uint64 * count)()
+    function.restype = None
+    function(*arguments, numbers)
+    if numbers[0] != 0:
+        raise ValueError("refused with %d at %d" % (numbers[0], numbers[1]))
+    return numbers[2:]
+
+
+def main(planner, data):
+    file = (ctypes.c_uint8 * len(data)).from_buffer_copy(data)
+    starts, heads, costs = words(NODES + 1), words(ARCS), words(ARCS)
+    n, m, ceiling, source, segments = called(planner.roosternow_read, 7, *lent(file, starts, heads, costs))
+    starts, heads, costs = first(n + 1, starts), first(m, heads), first(m, costs)
+    distances, parents, roster, route = words(n), words(n), words(n), words(n)
+    size = [number(n), number(ceiling), number(source)]
+    lists = lent(starts, heads, costs, distances, parents, roster)
+    one = called(planner.roosternow_one_level, 7, *size, *lists, *lent(words(4 * n + 64)))
+    two = called(planner.roosternow_two_level, 7, *size, number(segments), *lists, *lent(words(4 * n + 384)))
+    print("%d,%d,%d,%d" % (n, m, two[0], two[2]))
+    print("one,%d,%d,%d" % (one[1], one[3], one[4]))
+    print("two,%d,%d,%d" % (two[1], two[3], two[4]))
+    for node in range(n):
+        if distances[node] != NONE:
+            walked = [number(n), number(source), *lent(starts, heads, parents), number(node), *lent(route)]
+            nodes = called(planner.roosternow_route, 3, *walked)[0]
+            print(node, distances[node], *route[:nodes], sep=",")
+
+
+if __name__ == "__main__":
+    if len(sys.argv) != 2:
+        print("use: routes.py LIBRARY < FILE", file=sys.stderr)
+        sys.exit(2)
+    try:
+        main(ctypes.CDLL(sys.argv[1]), sys.stdin.buffer.read())
+    except ValueError as refusal:
+        print("routes.py:", refusal, file=sys.stderr)
+        sys.exit(1)
