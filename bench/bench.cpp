@@ -1,68 +1,57 @@
 // Measures both heaps beside their peers and prints tables in Markdown: bench [SAMPLES]
-#include "contestants.hpp"
+#include "measure.hpp"
 
 #include <cmath>
-#include <cstdio>
-#include <time.h>
+#include <set>
 
-// The time that this thread has had of its core, in microseconds: other programs of the machine do not count.
-static double now() {
-    timespec time;
-    clock_gettime(CLOCK_THREAD_CPUTIME_ID, &time);
-    return 1e6 * static_cast<double>(time.tv_sec) + 1e-3 * static_cast<double>(time.tv_nsec);
+static bool is_same(const Map &a, const Map &b) {
+    return a.n == b.n && a.ceiling == b.ceiling && a.source == b.source && a.starts == b.starts && a.heads == b.heads && a.costs == b.costs;
 }
 
-static double run_for(Contestant &contestant, int times) {
-    double start = now();
-    for (int i = 0; i < times; i++) contestant.run();
-    return (now() - start) / times;
-}
-
-static double median(std::vector<double> values) {
-    std::nth_element(values.begin(), values.begin() + values.size() / 2, values.end());
-    return values[values.size() / 2];
-}
-
-// Microseconds of one run, for each kind on one map: distances compared, a warm-up, then samples taken in turn, each round from another kind
-// on. A sample is as many runs as take about 200 µs.
-static std::vector<double> measure(const Map &map, const std::vector<Kind> &kinds, int samples) {
-    std::vector<std::unique_ptr<Contestant>> all;
-    std::vector<int> times;
-    for (const Kind &kind : kinds) {
-        all.push_back(kind.make(map));
-        all.back()->run();
-        if (all.back()->distances() != all.front()->distances()) {
-            std::fprintf(stderr, "bench: %s: the distances of %s differ\n", map.name.c_str(), kind.name.c_str());
-            std::exit(1);
-        }
-        double warm = run_for(*all.back(), 5);
-        times.push_back(std::max(1, static_cast<int>(200 / warm)));
-    }
-    std::vector<std::vector<double>> taken(all.size());
-    for (int sample = 0; sample < samples; sample++) {
-        for (std::size_t i = 0; i < all.size(); i++) {
-            std::size_t turn = (i + sample) % all.size();
-            taken[turn].push_back(run_for(*all[turn], times[turn]));
+// Each map is measured once, whatever tables it stands in: with all its kinds in turn, before anything is printed.
+class Times {
+public:
+    void ask(const Map &map, const std::vector<Kind> &kinds) {
+        Asked &asked = of(map);
+        for (const Kind &kind : kinds) {
+            bool known = false;
+            for (const Kind &other : asked.kinds) known = known || other.name == kind.name;
+            if (!known) asked.kinds.push_back(kind);
         }
     }
-    std::vector<double> medians;
-    for (const std::vector<double> &values : taken) medians.push_back(median(values));
-    return medians;
-}
 
-static void print_row(const std::string &name, const std::vector<double> &values, const char *format) {
-    std::printf("| %s |", name.c_str());
-    for (double value : values) std::printf(" "), std::printf(format, value), std::printf(" |");
-    std::printf("\n");
-}
+    void take(int samples) {
+        for (Asked &asked : all) asked.medians = measure(asked.map, asked.kinds, samples);
+    }
 
-static void print_head(const std::string &name, const std::vector<std::string> &columns) {
-    std::printf("| %s |", name.c_str());
-    for (const std::string &column : columns) std::printf(" %s |", column.c_str());
-    std::printf("\n|---|");
-    for (std::size_t i = 0; i < columns.size(); i++) std::printf("---|");
-    std::printf("\n");
-}
+    std::vector<double> medians(const Map &map, const std::vector<Kind> &kinds) {
+        const Asked &asked = of(map);
+        std::vector<double> found;
+        for (const Kind &kind : kinds) {
+            for (std::size_t i = 0; i < asked.kinds.size(); i++) {
+                if (asked.kinds[i].name == kind.name) found.push_back(asked.medians[i]);
+            }
+        }
+        return found;
+    }
+
+private:
+    struct Asked {
+        Map map;
+        std::vector<Kind> kinds;
+        std::vector<double> medians;
+    };
+
+    Asked &of(const Map &map) {
+        for (Asked &asked : all) {
+            if (is_same(asked.map, map)) return asked;
+        }
+        all.push_back({map, {}, {}});
+        return all.back();
+    }
+
+    std::vector<Asked> all;
+};
 
 static std::vector<std::string> names_of(const std::vector<Kind> &kinds) {
     std::vector<std::string> names;
@@ -87,19 +76,33 @@ static void print_ratios(const std::vector<Map> &maps, const std::vector<std::ve
     print_row("**geometric mean**", logarithms, "**%.2f**");
 }
 
-// Maps with many equal distances, beside the same map with distinct costs.
+static std::size_t distinct_distances(const Map &map) {
+    std::unique_ptr<Contestant> search = peers().back().make(map);
+    search->run();
+    const std::vector<std::uint32_t> found = search->distances();
+    return std::set<std::uint32_t>(found.begin(), found.end()).size();
+}
+
+// Maps with many equal distances, beside maps with the same arcs whose distances are all different, or nearly.
 static void print_ties(const std::vector<Map> &maps, const std::vector<std::vector<double>> &medians) {
-    static const std::size_t pairs[][2] = {{2, 0}, {3, 0}, {5, 4}, {6, 7}, {9, 8}};
-    print_head("Map with ties, by the same with distinct costs", {"one level", "two levels, K 64"});
+    static const std::size_t pairs[][2] = {{1, 0}, {2, 0}, {3, 0}, {5, 4}, {6, 7}};
+    print_head("Map with ties, by the same with distinct costs", {"one level", "two levels, K 64", "distinct distances", "of the other"});
     for (const auto &pair : pairs) {
-        print_row(maps[pair[0]].name, {medians[pair[0]][0] / medians[pair[1]][0], medians[pair[0]][1] / medians[pair[1]][1]}, "%.2f");
+        const Map &tied = maps[pair[0]], &other = maps[pair[1]];
+        const std::size_t here = distinct_distances(tied), there = distinct_distances(other);
+        if (tied.starts != other.starts || tied.heads != other.heads || 4 * here > there) {
+            std::fprintf(stderr, "bench: %s: no ties, or other arcs than %s\n", tied.name.c_str(), other.name.c_str());
+            std::exit(1);
+        }
+        print_cells({tied.name, shown(medians[pair[0]][0] / medians[pair[1]][0], "%.2f"), shown(medians[pair[0]][1] / medians[pair[1]][1], "%.2f"),
+                     std::to_string(here), std::to_string(there)});
     }
 }
 
-static void print_growth(const char *title, const std::vector<Map> &maps, const std::vector<Kind> &kinds, int samples) {
+static void print_growth(const char *title, const std::vector<Map> &maps, const std::vector<Kind> &kinds, Times &times) {
     std::printf("\n%s\n\n", title);
     print_head("Map", names_of(kinds));
-    for (const Map &map : maps) print_row(map.name, measure(map, kinds, samples), "%.1f");
+    for (const Map &map : maps) print_row(map.name, times.medians(map, kinds), "%.1f");
 }
 
 static std::vector<Map> growing_nodes() {
@@ -130,8 +133,17 @@ int main(int count, char **words) {
     std::vector<Kind> kinds = {planner_kind("one level", 0), planner_kind("two levels, K 64", 64)};
     const std::vector<Kind> others = peers();
     kinds.insert(kinds.end(), others.begin(), others.end());
+    std::vector<Kind> by_segments;
+    for (std::uint32_t K = 2; K <= 64; K *= 2) by_segments.push_back(planner_kind("two levels, K " + std::to_string(K), K));
+    const std::vector<Map> nodes = growing_nodes(), arcs = growing_arcs(), chosen = {maps[0], maps[1], maps[4], maps[8], maps[11]};
+    Times times;
+    for (const Map &map : maps) times.ask(map, kinds);
+    for (const Map &map : nodes) times.ask(map, kinds);
+    for (const Map &map : arcs) times.ask(map, kinds);
+    for (const Map &map : chosen) times.ask(map, by_segments);
+    times.take(samples);
     std::vector<std::vector<double>> medians;
-    for (const Map &map : maps) medians.push_back(measure(map, kinds, samples));
+    for (const Map &map : maps) medians.push_back(times.medians(map, kinds));
     std::printf("Median microseconds of one run, %d samples each.\n\n", samples);
     print_head("Map", names_of(kinds));
     for (std::size_t i = 0; i < maps.size(); i++) print_row(maps[i].name, medians[i], "%.1f");
@@ -141,11 +153,8 @@ int main(int count, char **words) {
     print_ratios(maps, medians, 0, names_of(others));
     std::printf("\nTime on maps with ties.\n\n");
     print_ties(maps, medians);
-    print_growth("How time grows with n (random, C 1,048,575), microseconds.", growing_nodes(), kinds, samples);
-    print_growth("How time grows with m (random, C 1,048,575), microseconds.", growing_arcs(), kinds, samples);
-    std::vector<Kind> by_segments;
-    for (std::uint32_t K = 2; K <= 64; K *= 2) by_segments.push_back(planner_kind("K " + std::to_string(K), K));
-    const std::vector<Map> chosen = {maps[0], maps[1], maps[4], maps[8], maps[11]};
-    print_growth("How time changes with K (two levels), microseconds.", chosen, by_segments, samples);
+    print_growth("How time grows with n (random, C 1,048,575), microseconds.", nodes, kinds, times);
+    print_growth("How time grows with m (random, C 1,048,575), microseconds.", arcs, kinds, times);
+    print_growth("How time changes with K (two levels), microseconds.", chosen, by_segments, times);
     return 0;
 }
