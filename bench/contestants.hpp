@@ -52,6 +52,9 @@ public:
 
     std::vector<std::uint32_t> distances() const override { return found; }
 
+    // The numbers of the last run, at the places of enum roosternow_number.
+    const std::uint64_t *told() const { return numbers; }
+
 private:
     const Map &map;
     std::uint32_t segments;
