@@ -6,13 +6,17 @@ use borrow.Author.Needs.{needs}
 use Rattle.shifting.proofs.move_node.Statement.{statement}
 use Rattle.shifting.proofs.move_node.Tie as tie
 
-add-t13 : tie.Need-add-t13
-add-t13 c = omega (arith, c .before .before .before .before .before .before .before .before .before .before .pre .current-few, entered-low (c .before .before .before .enter .ensures))
+-- The start, before the node was entered.
+abbrev start : tie.After-enter → tie.Start
+start c = search needs
+
+add-current : tie.Need-add-t13
+add-current c = let e : tie.After-enter = search needs in omega (arith, start e .pre .current-few, entered-low (e .enter .ensures))
 
 returns : tie.Need-returns
 returns c =
-    let e = c .before .before .before .before .enter in
-    record { counted = e .result; entered = e .ensures; front = refl; current = refl; reached = refl; tally = c .shifted-from .ensures }
+    let e : tie.After-enter = search needs in
+    record { counted = e .enter .result; entered = e .enter .ensures; front = refl; current = refl; reached = refl; tally = c .shifted-from .ensures }
 
 pub move-node-spec : {M : Type 1} → statement M
 move-node-spec =
@@ -22,7 +26,7 @@ move-node-spec =
     (λ c. search needs)
     (λ c. search needs)
     (λ c κs. search needs)
-    add-t13
+    add-current
     (λ c κs. search needs)
     (λ c. search needs)
     returns)
