@@ -7,10 +7,8 @@ use mathlib.Core.Bool.{Bool, true, false, cond, _&&_}
 use mathlib.Core.Logic.{inl, inr}
 use mathlib.Core.List.{List}
 use lib.Dec.{ltb, eqb}
-use lib.ListN.{getD}
-use lib.Seq.{getD-drop}
 use borrow.Author.Tests.{ltb-true, ne-eqb}
-use Rattle.theory.specs.Heap.{bucketFrom}
+use Rattle.theory.specs.Heap.{bound, bucketFrom}
 use Rattle.theory.proofs.Cases.{same?}
 use Rattle.bounds.specs.Words.{boundsOf, sizeOf, segmented, segmentNumber, segmentEnd, inBucket, inSegment, Inside}
 use Rattle.bounds.proofs.Bucket.{bucket-first, bucket-inside}
@@ -26,15 +24,15 @@ both false b e = apart e
 
 module _ (B K : ℕ) (sizes words : List ℕ) (n i k x : ℕ) where
   abbrev u : ℕ
-  u = getD words (4 * n + i) 0
+  u = bound (boundsOf n words) i
 
   bucket-belongs : 1 ≤ i → x ≤ u → inBucket n words i x ≡ true → bucketFrom (boundsOf n words) x i ≡ i
   unfolding inBucket
   bucket-belongs low under e = elim (same? i 1) [
-    | inl one ↦ rw one (bucket-first (boundsOf n words) x (rw (getD-drop, ← one) under))
+    | inl one ↦ rw one (bucket-first (boundsOf n words) x (rw (← one) under))
     | inr more ↦
-        let above : ltb (getD words (4 * n + (i - 1)) 0) x ≡ true = rw (ne-eqb i 1 more) at e in
-        bucket-inside (boundsOf n words) x i (omega (arith, low, more)) (rw getD-drop (ltb-true _ x above)) (rw getD-drop under)
+        let above : ltb (bound (boundsOf n words) (i - 1)) x ≡ true = rw (ne-eqb i 1 more) at e in
+        bucket-inside (boundsOf n words) x i (omega (arith, low, more)) (ltb-true _ x above) under
   ]
 
   segment-belongs : k ≤ K → x < segmentEnd B K sizes i u k → inSegment B K sizes words n i k x ≡ true → segmented B K i ≡ true

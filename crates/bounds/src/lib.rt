@@ -6,9 +6,17 @@
 ghost use mathlib.Core.Path.{_≡_};
 ghost use mathlib.Core.Bool.{_&&_};
 ghost use Prim.Native.Nat.{_+_, _*_, _≤_, _<_, min};
-ghost use lib.ListN.{length, getD};
-ghost use Rattle.theory.specs.Heap.{bucketFrom};
+ghost use lib.ListN.{length};
+ghost use Rattle.theory.specs.Heap.{bound, bucketFrom};
 ghost use Rattle.bounds.specs.Words.{boundsOf, reboundWords, firstWords, segmented, segmentNumber, segmentEnd, inBucket, inSegment, Sized};
+
+// u(i).
+pub fn bound_of(words: &[u32], n: usize, i: usize) -> u32
+    requires { ⌜ 4 * n + i < length (now words) ⌝ }
+    ensures { λ r. ⌜ r ≡ bound (boundsOf n (now (words .entry))) i ⌝ }
+{
+    words[4 * n + i]
+}
 
 // The bucket of a key, searched for from bucket `start` down.
 pub fn bucket_of(words: &[u32], n: usize, key: u32, start: usize) -> usize
@@ -17,7 +25,7 @@ pub fn bucket_of(words: &[u32], n: usize, key: u32, start: usize) -> usize
 {
     let mut i = start;
     while 0 < i {
-        if words[4 * n + i] < key {
+        if bound_of(words, n, i) < key {
             return i + 1;
         }
         i -= 1;
@@ -136,7 +144,7 @@ fn is_in_bucket(words: &[u32], n: usize, bucket: usize, key: u32) -> bool
     if bucket == 1 {
         return true;
     }
-    words[4 * n + (bucket - 1)] < key
+    bound_of(words, n, bucket - 1) < key
 }
 
 // Whether a key below the upper end of a segment is in that segment. This takes no search and no division.
@@ -152,12 +160,12 @@ pub fn is_inside(
 ) -> bool
     requires { ⌜ Sized buckets (now sizes) ⌝ }
     requires { ⌜ (1 ≤ bucket) × (4 * n + bucket < length (now words)) ⌝ }
-    requires { ⌜ (segment ≤ segments) × (key < segmentEnd buckets segments (now sizes) bucket (getD (now words) (4 * n + bucket) 0) segment) ⌝ }
+    requires { ⌜ (segment ≤ segments) × (key < segmentEnd buckets segments (now sizes) bucket (bound (boundsOf n (now words)) bucket) segment) ⌝ }
     ensures { λ r. ⌜ r ≡ (inBucket n (now (words .entry)) bucket key && inSegment buckets segments (now (sizes .entry)) (now (words .entry)) n bucket segment key) ⌝ }
 {
     if is_in_bucket(words, n, bucket, key) {
         if is_segmented(segments, buckets, bucket) {
-            let bound = words[4 * n + bucket];
+            let bound = bound_of(words, n, bucket);
             let end = segment_end(sizes, segments, buckets, bucket, bound, segment);
             return end - key < sizes[bucket - 1];
         }

@@ -5,14 +5,46 @@
 //     words[4n .. 4n + 24)      the bounds, which this crate leaves alone
 //     words[4n + 24 .. 4n + 28) the summary of the bits
 //     words[4n + 32 .. )        the lists' heads and counts
-// Callers keep `Frontier` shut and go by the place words.
+// Callers keep `Frontier` shut and go by the place words, which the first functions here read.
 use buckets::Found;
 use model::Node;
 ghost use mathlib.Core.Path.{_≡_};
-ghost use Prim.Native.Nat.{_<_, _≤_};
-ghost use lib.ListN.{getD};
-ghost use Rattle.buckets.specs.Words.{places, placeWord, slotBucket};
+ghost use Prim.Native.Nat.{_*_, _%_, _<_, _≤_};
+ghost use lib.Dec.{eqb};
+ghost use lib.ListN.{length, getD};
+ghost use Rattle.buckets.specs.Words.{places, placeWord, placeBucket, placeSlot, slotBucket, Held};
 ghost use Rattle.frontier.specs.Frontier.{Frontier, Placed, Current, FirstCurrent, FirstLeft};
+
+// The place word of v.
+pub fn place_of(words: &[u32], n: usize, v: Node) -> u32
+    requires { ⌜ (v .0 < n) × (3 * n ≤ length (now words)) ⌝ }
+    ensures { λ r. ⌜ r ≡ getD (places n (now (words .entry))) (v .0) 0 ⌝ }
+{
+    let at = v.0 as usize;
+    words[2 * n + at]
+}
+
+// Whether the node of a place word is unlabelled.
+pub fn is_unlabelled(place: u32) -> bool
+    ensures { λ r. ⌜ r ≡ eqb place 0 ⌝ }
+{
+    place == 0
+}
+
+// The bucket that a place word names.
+pub fn place_bucket(place: u32) -> usize
+    ensures { λ r. ⌜ r ≡ placeBucket place ⌝ }
+{
+    (place / 512) as usize
+}
+
+// The slot that a place word names.
+pub fn place_slot(place: u32) -> usize
+    requires { ⌜ 0 < place % 512 ⌝ }
+    ensures { λ r. ⌜ r ≡ placeSlot place ⌝ }
+{
+    (place % 512) as usize - 1
+}
 
 // v, which is unlabelled, is put among the nodes at the current key.
 pub fn enter_current(words: &mut [u32], n: usize, slots: usize, segments: usize, v: Node)
@@ -58,7 +90,7 @@ pub fn enter_slot(
 // v leaves its slot, as unlabelled.
 pub fn leave_slot(words: &mut [u32], n: usize, slots: usize, segments: usize, v: Node)
     requires { ⌜ Frontier n slots segments (now words) ⌝ }
-    requires { ⌜ (v .0 < n) × (512 ≤ getD (places n (now words)) (v .0) 0) ⌝ }
+    requires { ⌜ (v .0 < n) × Held (getD (places n (now words)) (v .0) 0) ⌝ }
     ensures { λ _. ⌜ Placed n slots segments (now (words .entry)) (now (words .exit)) (v .0) 0 ⌝ }
 {
     linking::take(words, n, slots, segments, v);
@@ -67,7 +99,7 @@ pub fn leave_slot(words: &mut [u32], n: usize, slots: usize, segments: usize, v:
 // v leaves its slot as scanned.
 pub fn scan_slot(words: &mut [u32], n: usize, slots: usize, segments: usize, v: Node)
     requires { ⌜ Frontier n slots segments (now words) ⌝ }
-    requires { ⌜ (v .0 < n) × (512 ≤ getD (places n (now words)) (v .0) 0) ⌝ }
+    requires { ⌜ (v .0 < n) × Held (getD (places n (now words)) (v .0) 0) ⌝ }
     ensures { λ _. ⌜ Placed n slots segments (now (words .entry)) (now (words .exit)) (v .0) 2 ⌝ }
 {
     linking::take(words, n, slots, segments, v);

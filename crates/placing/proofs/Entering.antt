@@ -4,8 +4,7 @@ use native.Mathlib.Omega.{arith}
 use mathlib.Core.Path.{_≡_, refl, sym, _∙_, ap}
 use mathlib.Core.Logic.{_≢_}
 use mathlib.Core.List.{List}
-use lib.ListN.{length, getD}
-use lib.Seq.{getD-drop}
+use lib.ListN.{length}
 use borrow.Author.Tests.{eq-eqb, ne-eqb}
 use Rattle.theory.specs.Heap.{bound, bucketFrom}
 use Rattle.bounds.specs.Words.{boundsOf, segmentNumber}
@@ -33,35 +32,36 @@ module _ {layout : Layout} {sizes words : List ℕ} {front v key start : ℕ} (E
       record { placed = rw q P; counted = rw q }
 
   module _ (later : key ≢ front) {b : ℕ} (found : b ≡ bucketFrom (boundsOf n words) key start) where
-    bound-read : bound (boundsOf n words) b ≡ getD words (4 * n + b) 0
-    bound-read = getD-drop (4 * n) words b 0
-
-    pub slot-fits : SlotFits B K b (segmentNumber B K sizes b (getD words (4 * n + b) 0) key)
-    slot-fits = rw (← bound-read, found) (E .enters .fits later)
-
-    pub under : key ≤ getD words (4 * n + b) 0
-    under = rw (← bound-read, found) (E .enters .under later)
+    found-fits : SlotFits B K b (segmentNumber B K sizes b (bound (boundsOf n words) b) key)
+    found-fits = rw found (E .enters .fits later)
 
     pub bucket-read : 4 * n + b < length words
-    bucket-read = omega (arith, slot-fits .last, E .formed .sized .few, E .frontier .linked .fits .long)
+    bucket-read = omega (arith, found-fits .last, E .formed .sized .few, E .frontier .linked .fits .long)
 
-    module _ {k : ℕ} (segment : k ≡ segmentNumber B K sizes b (getD words (4 * n + b) 0) key) where
-      fits : SlotFits B K b k
-      fits = rw segment slot-fits
+    module _ {u : ℕ} (read : u ≡ bound (boundsOf n words) b) where
+      pub slot-fits : SlotFits B K b (segmentNumber B K sizes b u key)
+      slot-fits = rw read found-fits
 
-      pub segment-low : 1 ≤ k
-      segment-low = fits .low
+      pub under : key ≤ u
+      under = rw (read, found) (E .enters .under later)
 
-      pub in-bucket : b ≡ slotBucket K (slotOf K b k)
-      in-bucket = sym (slot-bucket fits)
+      module _ {k : ℕ} (segment : k ≡ segmentNumber B K sizes b u key) where
+        fits : SlotFits B K b k
+        fits = rw segment slot-fits
 
-      pub in-slots : slotOf K b k < layout .slots
-      in-slots = omega (arith, slot-below fits, E .formed .slots)
+        pub segment-low : 1 ≤ k
+        segment-low = fits .low
 
-      pub few : (b - 1) * K + (k - 1) < 512
-      few = omega (arith, in-slots, E .frontier .linked .fits .few)
+        pub in-bucket : b ≡ slotBucket K (slotOf K b k)
+        in-bucket = sym (slot-bucket fits)
 
-      pub entered-slot : {words′ : List ℕ} → Placed n (layout .slots) K words words′ v (placeWord K (slotOf K b k)) → Entered layout sizes words words′ front v key start 0
-      entered-slot P =
-          let q : slotWord K b k ≡ keyWord B K sizes (boundsOf n words) front key start = rw (ne-eqb key front later) (rw (← found, bound-read, ← segment) refl) in
-          record { placed = rw q at P; counted = sym (ap (isWord 1) (sym q) ∙ (rw (ne-eqb (slotWord K b k) 1 (λ e. omega (arith, word-far K b k))))) }
+        pub in-slots : slotOf K b k < layout .slots
+        in-slots = omega (arith, slot-below fits, E .formed .slots)
+
+        pub few : (b - 1) * K + (k - 1) < 512
+        few = omega (arith, in-slots, E .frontier .linked .fits .few)
+
+        pub entered-slot : {words′ : List ℕ} → Placed n (layout .slots) K words words′ v (placeWord K (slotOf K b k)) → Entered layout sizes words words′ front v key start 0
+        entered-slot P =
+            let q : slotWord K b k ≡ keyWord B K sizes (boundsOf n words) front key start = rw (ne-eqb key front later) (rw (← found, ← read, ← segment) refl) in
+            record { placed = rw q at P; counted = sym (ap (isWord 1) (sym q) ∙ (rw (ne-eqb (slotWord K b k) 1 (λ e. omega (arith, word-far K b k))))) }

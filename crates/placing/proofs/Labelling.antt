@@ -18,9 +18,9 @@ use Rattle.theory.specs.Invariants.{Bounds, Fits}
 use Rattle.theory.proofs.Heap.Buckets.{late-range}
 use Rattle.bounds.specs.Words.{boundsOf}
 use Rattle.bounds.proofs.Segments.{number-whole}
-use Rattle.buckets.specs.Words.{places}
+use Rattle.buckets.specs.Words.{places, placeBucket, Held}
 use Rattle.frontier.specs.Frontier.{Frontier, Placed}
-use Rattle.frontier.specs.Frontier.Laws.{placed-again, placed-here, place-read}
+use Rattle.frontier.specs.Frontier.Laws.{placed-again, placed-here}
 use Rattle.state.specs.declared.Layout.{Layout}
 use Rattle.state.specs.declared.State.{State}
 use Rattle.state.specs.Places.{isWord}
@@ -87,9 +87,6 @@ module _ {layout : Layout} {sizes : List ℕ} {X : Setting layout sizes} {before
   abbrev pub place : ℕ
   place = getD (places n (l .words)) v 0
 
-  pub place-is-read : getD (l .words) (2 * n + v) 0 ≡ place
-  place-is-read = place-read (T .frontier) v node
-
   marked-place : {m : Mark} → mark (h .search) v ≡ m → place ≡ Rattle.state.specs.Places.wordOf (slotWord K) (s .front) m (bucketOf h v) (segmentOf sh h v) (keyOf h v)
   marked-place e = T .places v node ∙ place-is (slotWord K) sh (s .front) h v e refl refl refl
 
@@ -106,10 +103,10 @@ module _ {layout : Layout} {sizes : List ℕ} {X : Setting layout sizes} {before
   pub held : place ≢ 0 → mark (h .search) v ≡ labelled
   held e = mark-cases (mark (h .search) v) (λ q. absurd (e (marked-place q))) (λ q. q) (λ q. absurd (L .labelling .unscanned q))
 
-  pub held-far : place ≢ 0 → 512 ≤ place
+  pub held-far : place ≢ 0 → Held place
   held-far e = omega (arith, held-word (held e), word-far K (bucketOf h v) (segmentOf sh h v))
 
-  pub held-bucket : place ≢ 0 → place / 512 ≡ bucketOf h v
+  pub held-bucket : place ≢ 0 → placeBucket place ≡ bucketOf h v
   held-bucket e =
       let on = held e in
       let less : x < keyOf h v = ltb-true x (keyOf h v) (rw on at (L .labelling .less)) in
@@ -163,17 +160,17 @@ module _ {layout : Layout} {sizes : List ℕ} {X : Setting layout sizes} {before
         fits = f;
         whole = λ t. X .agrees .segment b u (keyOf h v) ∙ number-whole B K sizes b u (keyOf h v) t;
         word = held-word on;
-        below = rw (T .bounds b (f .first) (f .last))
+        below = rw (bound-word T b (f .first) (f .last))
             (omega (arith, less, key-end (X .lawful) (L .inv .bounds) fit (omega (arith, L .late)), X .agrees .end b u (segmentOf sh h v)));
       }
 
   -- A labelled node whose place word is still that of its key: the words stay as they are.
-  pub stays-stands : place ≢ 0 → keyWord B K sizes (boundsOf n (l .words)) (s .front) x (place / 512) ≡ place → {s′ : State} (a : ℕ)
+  pub stays-stands : place ≢ 0 → keyWord B K sizes (boundsOf n (l .words)) (s .front) x (placeBucket place) ≡ place → {s′ : State} (a : ℕ)
       → s′ .front ≡ s .front → s′ .current ≡ s .current → s′ .reached ≡ s .reached → s′ .tally ≡ afterEvent decrease (s .tally)
       → Stands layout sh before (heapLabel sh v x a h) (lists (l .words) (set (l .distances) v x) (set (l .parents) v a) (l .roster)) s′
   stays-stands e stays {s′} a f c q t =
       let on = held e in
-      let st : searchStart sh (mark (h .search) v) (bucketOf h v) ≡ place / 512 = start-held on ∙ sym (held-bucket e) in
+      let st : searchStart sh (mark (h .search) v) (bucketOf h v) ≡ placeBucket place = start-held on ∙ sym (held-bucket e) in
       let P : Placed n (layout .slots) K (l .words) (l .words) v place = placed-same (T .frontier) v in
       label-stands X T (L .inv) (L .labelling) (L .late) (boundsOf n (l .words)) (bound-word T) (rw (st, stays) P) a
       (record {
@@ -184,7 +181,7 @@ module _ {layout : Layout} {sizes : List ℕ} {X : Setting layout sizes} {before
       })
 
   -- A labelled node, when it has left its slot.
-  module _ (e : place ≢ 0) {w₁ : List ℕ} (P : Placed n (layout .slots) K (l .words) w₁ v 0) {start : ℕ} (from : start ≡ place / 512) where
+  module _ (e : place ≢ 0) {w₁ : List ℕ} (P : Placed n (layout .slots) K (l .words) w₁ v 0) {start : ℕ} (from : start ≡ placeBucket place) where
     read : (i : ℕ) → 1 ≤ i → i ≤ B → bound (boundsOf n w₁) i ≡ bound (h .bounds) i
     read i low high = getD-drop (4 * n) w₁ i 0 ∙ P .bounds i (omega (arith, X .agrees .sized .few)) ∙ T .bounds i low high
 

@@ -5,7 +5,7 @@ use mathlib.Core.Bool.{false}
 use mathlib.Core.List.{List, _∷_, List·Memᴰ}
 use lib.ListN.{length, getD}
 use Rattle.theory.specs.Network.{Link}
-use Rattle.theory.specs.Heap.{Heap}
+use Rattle.theory.specs.Heap.{Heap, bound}
 use Rattle.theory.specs.Invariants.{HeapInv, Labelling, Relaxing}
 use Rattle.bounds.specs.Words.{boundsOf, segmented, segmentEnd, Sized}
 use Rattle.buckets.specs.Words.{places}
@@ -45,7 +45,7 @@ pub record Standing (layout : Layout) (sizes words : List ℕ) (place key : ℕ)
   pub fits : SlotFits (layout .buckets) (layout .segments) bucket segment
   pub whole : segmented (layout .buckets) (layout .segments) bucket ≡ false → segment ≡ 1
   pub word : place ≡ slotWord (layout .segments) bucket segment
-  pub below : key < segmentEnd (layout .buckets) (layout .segments) sizes bucket (getD words (4 * layout .nodes + bucket) 0) segment
+  pub below : key < segmentEnd (layout .buckets) (layout .segments) sizes bucket (bound (boundsOf (layout .nodes) words) bucket) segment
 
 -- The lists of a run from their parts (document 01, "What the planner holds and leaves out").
 abbrev pub lists : (words distances parents roster : List ℕ) → Lists

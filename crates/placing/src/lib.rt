@@ -6,10 +6,9 @@ use state::State;
 ghost use mathlib.Core.Path.{_≡_};
 ghost use mathlib.Core.Bool.{true};
 ghost use mathlib.Core.List.{List, _∷_};
-ghost use Prim.Native.Nat.{ℕ, _+_, _/_};
-ghost use lib.ListN.{getD};
+ghost use Prim.Native.Nat.{ℕ};
 ghost use Rattle.bounds.specs.Words.{boundsOf};
-ghost use Rattle.buckets.specs.Words.{places};
+ghost use Rattle.buckets.specs.Words.{placeBucket};
 ghost use Rattle.theory.specs.Network.{Link};
 ghost use Rattle.theory.specs.Heap.{Heap, heapLabel, heapRelax};
 ghost use Rattle.state.specs.Slots.{keyWord};
@@ -37,7 +36,7 @@ pub fn enter(
         return 1;
     }
     let bucket = bounds::bucket_of(words, n, key, start);
-    let bound = words[4 * n + bucket];
+    let bound = bounds::bound_of(words, n, bucket);
     let segment = bounds::segment_of(sizes, segments, layout.buckets, bucket, bound, key);
     let slot = (bucket - 1) * segments + (segment - 1);
     frontier::enter_slot(words, n, slots, segments, v, bucket, slot);
@@ -47,14 +46,14 @@ pub fn enter(
 // Whether a key, below that of a node in a list, has the same place word: the node then stays where it is, and nothing is moved.
 fn stays(words: &[u32], sizes: &[u32], layout: Layout, front: u32, place: u32, key: u32) -> bool
     requires { ⌜ Standing layout (now sizes) (now words) place key ⌝ }
-    ensures { λ r. ⌜ (r ≡ true → keyWord (layout .buckets) (layout .segments) (now (sizes .entry)) (boundsOf (layout .nodes) (now (words .entry))) front key (place / 512) ≡ place) ⌝ }
+    ensures { λ r. ⌜ (r ≡ true → keyWord (layout .buckets) (layout .segments) (now (sizes .entry)) (boundsOf (layout .nodes) (now (words .entry))) front key (placeBucket place) ≡ place) ⌝ }
 {
     if front == key {
         return false;
     }
     let segments = layout.segments;
-    let bucket = (place / 512) as usize;
-    let slot = (place % 512) as usize - 1;
+    let bucket = frontier::place_bucket(place);
+    let slot = frontier::place_slot(place);
     let segment = slot - (bucket - 1) * segments + 1;
     bounds::is_inside(
         words,
@@ -90,8 +89,8 @@ pub fn label(
     let at = v.0 as usize;
     distances[at] = sum;
     parents[at] = arc.0;
-    let place = words[2 * n + at];
-    if place == 0 {
+    let place = frontier::place_of(words, n, v);
+    if frontier::is_unlabelled(place) {
         let current = enter(words, sizes, layout, state.front, v, sum, layout.buckets);
         return State {
             front: state.front,
@@ -110,7 +109,7 @@ pub fn label(
         };
     }
     frontier::leave_slot(words, n, layout.slots, layout.segments, v);
-    let start = (place / 512) as usize;
+    let start = frontier::place_bucket(place);
     let current = enter(words, sizes, layout, state.front, v, sum, start);
     State {
         front: state.front,

@@ -7,7 +7,6 @@ use mathlib.Core.Bool.{true, false}
 use mathlib.Core.Logic.{inl, inr}
 use mathlib.Core.List.{List}
 use lib.ListN.{length, getD, set}
-use lib.Seq.{getD-drop}
 use borrow.Author.Tests.{lt-ltb, le-ltb}
 use Rattle.theory.specs.Shape.{Shape}
 use Rattle.theory.specs.Heap.{Heap, bound, heapRemove}
@@ -85,10 +84,10 @@ module _ {layout : Layout} {sizes : List ℕ} {X : Setting layout sizes} {before
   near = late-range (R .resting .inv .bounds) front-fits (omega arith) (omega (arith, X .lawful .two))
 
   abbrev first-bound : ℕ
-  first-bound = getD (l .words) (4 * n + 1) 0
+  first-bound = bound (boundsOf n (l .words)) 1
 
   bound-is : first-bound ≡ bound (h .bounds) 1
-  bound-is = R .stands .bounds 1 (omega arith) (omega (arith, X .agrees .sized .two))
+  bound-is = bound-word (R .stands) 1 (omega arith) (omega (arith, X .agrees .sized .two))
 
   abbrev number : ℕ
   number = segmentNumber (layout .buckets) (layout .segments) sizes 1 first-bound (s .front)
@@ -121,6 +120,6 @@ module _ {layout : Layout} {sizes : List ℕ} {X : Setting layout sizes} {before
             (record {
               front = f;
               reached = q;
-              tally = t ∙ same-tally refl refl (omega arith) (rw (k, getD-drop (4 * n) (l .words) 1 0));
+              tally = t ∙ same-tally refl refl (omega arith) (rw k);
             }) c);
       }

@@ -119,10 +119,10 @@ module _ {layout : Layout} {sizes : List ℕ} {X : Setting layout sizes} {before
 
     -- v has left its slot.
     module _ {w₁ : List ℕ} (P : Placed n (layout .slots) K (l .words) w₁ v 2) where
-      bound-same : (i : ℕ) → 1 ≤ i → i ≤ B → getD w₁ (4 * n + i) 0 ≡ bound (h .bounds) i
-      bound-same i lo hi = P .bounds i (omega (arith, X .agrees .sized .few)) ∙ R .stands .bounds i lo hi
+      bound-same : (i : ℕ) → 1 ≤ i → i ≤ B → bound (boundsOf n w₁) i ≡ bound (h .bounds) i
+      bound-same i lo hi = getD-drop (4 * n) w₁ i 0 ∙ P .bounds i (omega (arith, X .agrees .sized .few)) ∙ R .stands .bounds i lo hi
 
-      end-is : segmentEnd B K sizes j (getD w₁ (4 * n + j) 0) k ≡ segmentEnd B K sizes j (bound (h .bounds) j) k
+      end-is : segmentEnd B K sizes j (bound (boundsOf n w₁) j) k ≡ segmentEnd B K sizes j (bound (h .bounds) j) k
       end-is = ap (λ (u : ℕ). segmentEnd B K sizes j u k) (bound-same j (b .low) (b .high))
 
       words-long : 4 * n + 32 ≤ length w₁
@@ -178,7 +178,7 @@ module _ {layout : Layout} {sizes : List ℕ} {X : Setting layout sizes} {before
       bounds-are : (i : ℕ) → 1 ≤ i → i ≤ B → bound u i ≡ bound after i
       bounds-are i lo hi =
           let a = after-words-agree (X .agrees) n w₁ (omega (arith, words-long, X .agrees .sized .few)) j k key (h .bounds) (b .high) (omega (arith, R .resting .inv .bounds .long, X .agrees .buckets))
-          (λ p l m. getD-drop (4 * n) w₁ p 0 ∙ bound-same p l m) i lo hi in
+          bound-same i lo hi in
           ap (λ (x : ℕ). bound (boundsOf n (renewed layout sizes w₁ j k x)) i) (key-of v low)
           ∙ ap (λ (e : ℕ). bound (boundsOf n (reboundWords n sizes e (key - 1) 1 j w₁)) i) end-is
           ∙ a ∙ ap (λ (m : ℕ). bound (boundsAfter (X .shape) j m key (h .bounds)) i) segment-is

@@ -28,7 +28,7 @@ fn remove_current(
 {
     let n = layout.nodes;
     let segments = layout.segments;
-    let bound = words[4 * n + 1];
+    let bound = bounds::bound_of(words, n, 1);
     let segment = finding::current_segment(segments, bound, state.front);
     let looks = finding::looks_of(segments, 1, segment);
     let v = frontier::take_current(words, n, layout.slots, segments);

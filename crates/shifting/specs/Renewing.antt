@@ -1,8 +1,9 @@
 -- The bounds that a removal sets anew.
 use Prim.Native.Nat.{ℕ, _+_, _-_, _*_, _≤_}
 use mathlib.Core.List.{List}
-use lib.ListN.{length, getD}
-use Rattle.bounds.specs.Words.{segmentEnd, reboundWords}
+use lib.ListN.{length}
+use Rattle.theory.specs.Heap.{bound}
+use Rattle.bounds.specs.Words.{boundsOf, segmentEnd, reboundWords}
 use Rattle.state.specs.declared.Layout.{Layout}
 use Rattle.placing.specs.Placing.{Formed}
 
@@ -14,9 +15,9 @@ pub record Renews (layout : Layout) (sizes words : List ℕ) (j k x : ℕ) : Typ
   pub high : j ≤ layout .buckets
   pub segment : k ≤ layout .segments
   pub positive : 1 ≤ x
-  pub end : x ≤ segmentEnd (layout .buckets) (layout .segments) sizes j (getD words (4 * layout .nodes + j) 0) k
+  pub end : x ≤ segmentEnd (layout .buckets) (layout .segments) sizes j (bound (boundsOf (layout .nodes) words) j) k
 
 -- The words with the bounds below bucket j as a removal of key x from its segment k leaves them (document 01, "Two-level heap").
 abbrev pub renewed : (layout : Layout) → (sizes words : List ℕ) → (j k x : ℕ) → List ℕ
 renewed layout sizes words j k x =
-    reboundWords (layout .nodes) sizes (segmentEnd (layout .buckets) (layout .segments) sizes j (getD words (4 * layout .nodes + j) 0) k) (x - 1) 1 j words
+    reboundWords (layout .nodes) sizes (segmentEnd (layout .buckets) (layout .segments) sizes j (bound (boundsOf (layout .nodes) words) j) k) (x - 1) 1 j words

@@ -24,7 +24,7 @@ pub fn renew_bounds(
     ensures { λ _. ⌜ now (words .exit) ≡ renewed layout (now (sizes .entry)) (now (words .entry)) bucket segment key ⌝ }
 {
     let n = layout.nodes;
-    let bound = words[4 * n + bucket];
+    let bound = bounds::bound_of(words, n, bucket);
     let end = bounds::segment_end(
         sizes,
         layout.segments,

@@ -2,7 +2,6 @@
 use Prim.Native.Nat.{_≤_}
 use native.Mathlib.Omega.{arith}
 use mathlib.Core.Path.{_≡_, refl, sym, _∙_}
-use lib.Seq.{getD-drop}
 use borrow.Author.Needs.{needs}
 use Rattle.theory.specs.Heap.{bucketFrom}
 use Rattle.bounds.specs.Words.{boundsOf}
@@ -16,18 +15,27 @@ Inv-loop words n key start i₀ i = (i ≤ start) × (bucketFrom (boundsOf n wor
 abbrev μ-loop : tie.MeasureT-loop
 μ-loop words n key start i₀ i = i
 
+-- The places that the answers name: the start, the loop, and the bound of a turn.
+abbrev start : tie.At-loop Inv-loop μ-loop → tie.Start Inv-loop μ-loop
+start c = search needs
+
+abbrev loop-of : tie.After-bound-of Inv-loop μ-loop → tie.At-loop Inv-loop μ-loop
+loop-of c = search needs
+
 returns : tie.Need-returns Inv-loop μ-loop
 returns c =
-    let l = c .before .before .before in
-    let a = l .before .args in
-    sym (bucket-above (boundsOf (a .n) (a .words .now)) (a .key) (l .loop .i) (omega arith) (rw getD-drop (c .if1 .taken))) ∙ l .loop .inv .1
+    let t : tie.After-bound-of Inv-loop μ-loop = search needs in
+    let l = loop-of t in
+    let a = start l .args in
+    sym (bucket-above (boundsOf (a .n) (a .words .now)) (a .key) (l .loop .i) (omega arith) (omega (arith, t .bound-of .ensures, c .if1 .taken))) ∙ l .loop .inv .1
 
 loop-again : tie.Need-loop-again Inv-loop μ-loop
 loop-again c =
-    let l = c .before .before .before in
-    let a = l .before .args in (
+    let t : tie.After-bound-of Inv-loop μ-loop = search needs in
+    let l = loop-of t in
+    let a = start l .args in (
       omega arith,
-      bucket-below (boundsOf (a .n) (a .words .now)) (a .key) (l .loop .i) (omega arith) (rw getD-drop (c .if1 .left)) ∙ l .loop .inv .1,
+      bucket-below (boundsOf (a .n) (a .words .now)) (a .key) (l .loop .i) (omega arith) (omega (arith, t .bound-of .ensures, c .if1 .left)) ∙ l .loop .inv .1,
     )
 
 returns-2 : tie.Need-returns-2 Inv-loop μ-loop
@@ -41,10 +49,7 @@ bucket-of-spec =
     Inv-loop
     μ-loop
     (λ c. (omega arith, refl))
-    (λ c. search needs)
-    (λ c. search needs)
-    (λ c. search needs)
-    (λ c. search needs)
+    (λ c κs. search needs)
     (λ c. search needs)
     returns
     (λ c. search needs)

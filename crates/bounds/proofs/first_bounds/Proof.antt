@@ -13,26 +13,35 @@ use Rattle.bounds.proofs.first_bounds.Tie as tie
 set-bounds-requires : tie.Need-set-bounds-requires
 set-bounds-requires c κs = simp length-set (omega arith)
 
-module _ (c : tie.After-slice-known2) where
-  abbrev start : tie.Start
-  start = c .before .before .before .before .before .before .before .before
+-- The places that the answers name: the start, the first bound, and the bounds that follow from it.
+abbrev start : tie.After-raised → tie.Start
+start c = search needs
 
-  made : set (c .before .before .set-bounds .last .0) (4 * start .args .n + start .args .buckets) (start .args .top)
-      ≡ firstWords (start .args .n) (start .args .sizes .now) (start .args .buckets) (start .args .top) (start .args .words .now)
-  made = ap (λ (l : List ℕ). set l (4 * start .args .n + start .args .buckets) (start .args .top)) (c .before .before .set-bounds .ensures)
-      ∙ first-made (start .args .n) (start .args .sizes .now) (start .args .buckets) (start .args .top) _ (start .args .words .now)
-      (c .before .before .before .before .raised .ensures) (start .pre .1 .positive 1 (omega arith)) (omega arith) (omega arith)
+abbrev first : tie.After-set-bounds → tie.After-raised
+first c = search needs
 
-  same-length : length (set (c .before .before .set-bounds .last .0) (4 * start .args .n + start .args .buckets) (start .args .top)) ≡ length (start .args .words .now)
+module _ (c : tie.After-set-bounds) where
+  abbrev s : tie.Start
+  s = start (first c)
+
+  abbrev after : List ℕ
+  after = set (c .set-bounds .last .0) (4 * s .args .n + s .args .buckets) (s .args .top)
+
+  made : after ≡ firstWords (s .args .n) (s .args .sizes .now) (s .args .buckets) (s .args .top) (s .args .words .now)
+  made = ap (λ (l : List ℕ). set l (4 * s .args .n + s .args .buckets) (s .args .top)) (c .set-bounds .ensures)
+      ∙ first-made (s .args .n) (s .args .sizes .now) (s .args .buckets) (s .args .top) _ (s .args .words .now)
+      (first c .raised .ensures) (s .pre .1 .positive 1 (omega arith)) (omega arith) (omega arith)
+
+  same-length : length after ≡ length (s .args .words .now)
   same-length = ap length made
-      ∙ first-words-length (start .args .n) (start .args .sizes .now) (start .args .buckets) (start .args .top) (start .args .words .now) (omega arith) (omega arith)
+      ∙ first-words-length (s .args .n) (s .args .sizes .now) (s .args .buckets) (s .args .top) (s .args .words .now) (omega arith) (omega arith)
 
 pub first-bounds-spec : {M : Type 1} → statement M
 first-bounds-spec =
     tie.close
     (tie.spec
     (λ c. search needs)
-    (λ c. c .before .before .before .pre .1 .positive 1 (omega arith))
+    (λ c. let s : tie.Start = search needs in s .pre .1 .positive 1 (omega arith))
     (λ c. record { fits = omega (arith, c .shared-slice-known2 .given 1) })
     (λ c κs. search needs)
     (λ c. search needs)
@@ -44,5 +53,5 @@ first-bounds-spec =
     (λ c. search needs)
     (λ c. search needs)
     (λ c. search needs)
-    same-length
-    made)
+    (λ c. let set : tie.After-set-bounds = search needs in same-length set)
+    (λ c. let set : tie.After-set-bounds = search needs in made set))

@@ -8,11 +8,14 @@ use Rattle.bounds.proofs.is_in_bucket.Tie as tie
 
 returns : tie.Need-returns
 unfolding inBucket
-returns c = rw (eq-eqb (c .before .args .bucket) 1 (c .if1 .taken)) refl
+returns c = let s : tie.Start = search needs in rw (eq-eqb (s .args .bucket) 1 (c .if1 .taken)) refl
 
 returns-2 : tie.Need-returns-2
 unfolding inBucket
-returns-2 c = rw (ne-eqb (c .before .before .args .bucket) 1 (c .before .if1 .left)) refl
+returns-2 c =
+    let s : tie.Start = search needs in
+    let later : tie.Else1 = search needs in
+    rw (ne-eqb (s .args .bucket) 1 (later .if1 .left), ← c .bound-of .ensures) refl
 
 pub is-in-bucket-spec : {M : Type 1} → statement M
 is-in-bucket-spec =
@@ -20,8 +23,5 @@ is-in-bucket-spec =
     (tie.spec
     returns
     (λ c. search needs)
-    (λ c. search needs)
-    (λ c. search needs)
-    (λ c. search needs)
-    (λ c. search needs)
+    (λ c κs. search needs)
     returns-2)

@@ -176,9 +176,6 @@ module _ {n slots segments : ℕ} {w w′ : List ℕ} {v x : ℕ} (F : Frontier 
   placed-other u d = ap (λ (l : List ℕ). getD l u 0) (P .place) ∙ getD-set-other (places n w) v u x 0 d
 
 -- A place word as it stands in the words.
-pub place-read : {n slots segments : ℕ} {w : List ℕ} → Frontier n slots segments w → (v : ℕ) → v < n → getD w (2 * n + v) 0 ≡ getD (places n w) v 0
-place-read {n} {w = w} F v h = sym (place-word n w v h)
-
 -- Words that are all 0: no node is labelled.
 pub frontier-zero : (n slots segments : ℕ) (w : List ℕ) → 1 ≤ n → n ≤ 4096 → WordsFit n slots segments (length w) → ((j : ℕ) → getD w j 0 ≡ 0)
     → Frontier n slots segments w × (places n w ≡ replicate n 0)

@@ -19,8 +19,11 @@ start c = search needs
 abbrev later : tie.After-bucket-of → tie.Else1
 later c = search needs
 
-abbrev bucket : tie.After-segment-of → tie.After-bucket-of
+abbrev bucket : tie.After-bound-of → tie.After-bucket-of
 bucket c = search needs
+
+abbrev bound : tie.After-segment-of → tie.After-bound-of
+bound c = search needs
 
 returns : tie.Need-returns
 returns c =
@@ -28,47 +31,36 @@ returns c =
     let k = current entered in
     entered-current (current-start k .pre) (k .if1 .taken) (entered .enter-current .ensures)
 
--- Once the bucket is found.
-module _ (c : tie.After-bucket-of) where
-  abbrev d : tie.Start
-  d = start (later c)
-
-  abbrev b : ℕ
-  b = c .bucket-of .result
-
-  read : 4 * d .args .layout .nodes + b < lib.ListN.length (d .args .words .now)
-  read = bucket-read (d .pre) (later c .if1 .left) (c .bucket-of .ensures)
-
-add-bound : tie.Need-add-bound
-add-bound c = let e : tie.After-bucket-of = search needs in omega (arith, read e)
-
-mul-bound-2 : tie.Need-mul-bound-2
-mul-bound-2 c = let e : tie.After-bucket-of = search needs in omega (arith, read e)
-
-slice-read-bound : tie.Need-slice-read-bound
-slice-read-bound c = let e : tie.After-bucket-of = search needs in read e
+bound-of-requires : tie.Need-bound-of-requires
+bound-of-requires c κs =
+    let b : tie.After-bucket-of = search needs in
+    bucket-read (start (later b) .pre) (later b .if1 .left) (b .bucket-of .ensures)
 
 segment-of-requires : tie.Need-segment-of-requires
 segment-of-requires c κs =
-    let e : tie.After-bucket-of = search needs in
-    let p = d e .pre in
-    let q = later e .if1 .left in
-    let f = slot-fits p q (e .bucket-of .ensures) in
-    (p .formed .sized, (f .first, (under p q (e .bucket-of .ensures), f .low)))
+    let u : tie.After-bound-of = search needs in
+    let b = bucket u in
+    let p = start (later b) .pre in
+    let q = later b .if1 .left in
+    let f = slot-fits p q (b .bucket-of .ensures) (u .bound-of .ensures) in
+    (p .formed .sized, (f .first, (under p q (b .bucket-of .ensures) (u .bound-of .ensures), f .low)))
 
 -- Once the segment is found.
 module _ (c : tie.After-segment-of) where
-  abbrev e : tie.After-bucket-of
-  e = bucket c
+  abbrev b : tie.After-bucket-of
+  b = bucket (bound c)
 
-  slot-few : (e .bucket-of .result - 1) * d e .args .layout .segments + (c .segment-of .result - 1) < 512
-  slot-few = few (d e .pre) (later e .if1 .left) (e .bucket-of .ensures) (c .segment-of .ensures)
+  abbrev d : tie.Start
+  d = start (later b)
 
-  bucket-low : 1 ≤ e .bucket-of .result
-  bucket-low = slot-fits (d e .pre) (later e .if1 .left) (e .bucket-of .ensures) .first
+  slot-few : (b .bucket-of .result - 1) * d .args .layout .segments + (c .segment-of .result - 1) < 512
+  slot-few = few (d .pre) (later b .if1 .left) (b .bucket-of .ensures) (bound c .bound-of .ensures) (c .segment-of .ensures)
+
+  bucket-low : 1 ≤ b .bucket-of .result
+  bucket-low = slot-fits (d .pre) (later b .if1 .left) (b .bucket-of .ensures) (bound c .bound-of .ensures) .first
 
   low : 1 ≤ c .segment-of .result
-  low = segment-low (d e .pre) (later e .if1 .left) (e .bucket-of .ensures) (c .segment-of .ensures)
+  low = segment-low (d .pre) (later b .if1 .left) (b .bucket-of .ensures) (bound c .bound-of .ensures) (c .segment-of .ensures)
 
 sub-slot : tie.Need-sub-slot
 sub-slot c = let s : tie.After-segment-of = search needs in bucket-low s
@@ -85,10 +77,14 @@ add-slot c = let s : tie.After-segment-of = search needs in omega (arith, slot-f
 enter-slot-requires : tie.Need-enter-slot-requires
 enter-slot-requires c κs =
     let s : tie.After-segment-of = search needs in
-    let e = bucket s in
-    let p = d e .pre in
-    let q = later e .if1 .left in
-    (p .frontier, ((p .node, p .unlabelled), (in-slots p q (e .bucket-of .ensures) (s .segment-of .ensures), in-bucket p q (e .bucket-of .ensures) (s .segment-of .ensures))))
+    let p = d s .pre in
+    let q = later (b s) .if1 .left in (
+      p .frontier,
+      (
+        (p .node, p .unlabelled),
+        (in-slots p q (b s .bucket-of .ensures) (bound s .bound-of .ensures) (s .segment-of .ensures), in-bucket p q (b s .bucket-of .ensures) (bound s .bound-of .ensures) (s .segment-of .ensures)),
+      ),
+    )
 
 abbrev segment : tie.After-enter-slot → tie.After-segment-of
 segment c = search needs
@@ -97,8 +93,7 @@ returns-2 : tie.Need-returns-2
 returns-2 c =
     let entered : tie.After-enter-slot = search needs in
     let s = segment entered in
-    let e = bucket s in
-    entered-slot (d e .pre) (later e .if1 .left) (e .bucket-of .ensures) (s .segment-of .ensures) (entered .enter-slot .ensures)
+    entered-slot (d s .pre) (later (b s) .if1 .left) (b s .bucket-of .ensures) (bound s .bound-of .ensures) (s .segment-of .ensures) (entered .enter-slot .ensures)
 
 pub enter-spec : {M : Type 1} → statement M
 enter-spec =
@@ -108,10 +103,7 @@ enter-spec =
     (λ c. search needs)
     returns
     (λ c κs. search needs)
-    (λ c. search needs)
-    add-bound
-    mul-bound-2
-    slice-read-bound
+    bound-of-requires
     segment-of-requires
     sub-slot
     mul-slot
