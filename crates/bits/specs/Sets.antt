@@ -1,12 +1,11 @@
 -- A set of nodes below n, as bits in two regions of a list w of words of d bits: the nodes that share the smallest distance, of which the one of
 -- smallest number is scanned first (document 01, "The search"). Bit v % d of word bits + v / d says that v is in the set; bit i % d of word
 -- summary + i / d says that word bits + i is not 0. Callers keep `BitSet` and `In` shut: their facts can be named only here and in the
--- modules below. `Change` and `Find` have what the code's proofs cite, `Laws` and `Size` what a caller's proofs do. Assumes nothing.
+-- modules below. `Change` and `Find` have what the code's proofs cite, `Laws` what a caller's proofs do. Assumes nothing.
 mod Places
 pub mod Change
 pub mod Find
 pub mod Laws
-pub mod Size
 use mathlib.Core.Path.{_≡_}
 use mathlib.Core.Logic.{_⊎_, _≢_}
 use mathlib.Core.List.{List}

@@ -1,9 +1,9 @@
 -- The tests of buckets and of segments, one after the other, end at the lowest that is not empty.
-use Prim.Native.Nat.{ℕ, suc, _+_, _-_, _*_, _/_, _≤_, _<_}
+use Prim.Native.Nat.{ℕ, suc, _+_, _-_, _*_, _≤_, _<_}
 use native.Mathlib.Omega.{arith}
-use mathlib.Core.Path.{_≡_, refl, sym, _∙_, ap, subst}
+use mathlib.Core.Path.{_≡_, refl, ap, subst}
 use mathlib.Core.Bool.{Bool, true, false, not}
-use mathlib.Core.Logic.{_≢_, inl, inr}
+use mathlib.Core.Logic.{inl, inr}
 use mathlib.Core.List.{List}
 use lib.ListN.{getD}
 use Rattle.theory.proofs.Cases.{split, differ}
@@ -14,9 +14,8 @@ use Rattle.buckets.specs.declared.Found.{Found}
 use Rattle.buckets.specs.declared.Found.the-variants.{At, Nothing}
 use Rattle.model.specs.declared.Node.{Node}
 use Rattle.buckets.specs.Links.Laws.{held-bucket, bucket-slot}
-use Rattle.frontier.specs.Frontier.{Frontier}
 use Rattle.state.specs.declared.Layout.{Layout}
-use Rattle.state.specs.Slots.{slotOf, SlotFits}
+use Rattle.state.specs.Slots.{slotOf}
 use Rattle.finding.specs.Finding.{Holds, LowestBucket, InBucketSome, LowestSegment}
 
 -- ---- buckets

@@ -1,5 +1,5 @@
 -- What the place word of a node tells when its key falls, and that the words then stand for the step.
-use Prim.Native.Nat.{ℕ, _+_, _-_, _*_, _/_, _≤_, _<_}
+use Prim.Native.Nat.{ℕ, _+_, _*_, _≤_, _<_}
 use native.Mathlib.Omega.{arith}
 use mathlib.Core.Path.{_≡_, refl, sym, _∙_, ap}
 use mathlib.Core.Logic.{_≢_, inl, inr}
@@ -9,7 +9,7 @@ use lib.Seq.{getD-drop, set-getD}
 use borrow.Author.Tests.{ne-eqb, ltb-true}
 use Rattle.theory.specs.Sums.{sumBelow}
 use Rattle.theory.specs.Shape.{Shape}
-use Rattle.theory.specs.Search.{Mark, unlabelled, labelled, scanned, mark, below, inserted, decreased}
+use Rattle.theory.specs.Search.{Mark, unlabelled, labelled, mark, below}
 use Rattle.theory.specs.Heap.{Heap, bound, bucketOf, keyOf, segmentOf, searchStart, heapLabel}
 use Rattle.theory.proofs.Cases.{mark-cases, split}
 use Rattle.theory.proofs.Sums.{sum-mono, sum-ones}
@@ -24,13 +24,13 @@ use Rattle.frontier.specs.Frontier.Laws.{placed-again, placed-here}
 use Rattle.state.specs.declared.Layout.{Layout}
 use Rattle.state.specs.declared.State.{State}
 use Rattle.state.specs.Places.{isWord}
-use Rattle.state.specs.Slots.{slotWord, keyWord, SlotFits, Enters}
+use Rattle.state.specs.Slots.{slotWord, keyWord, SlotFits}
 use Rattle.state.specs.Stands.{Setting, Lists, Stands}
 use Rattle.state.specs.Tallies.{insertion, decrease, afterEvent}
 use Rattle.state.proofs.Places.Label.{place-is}
 use Rattle.state.proofs.Slots.{word-far, slot-bucket, slot-below, key-fits}
 use Rattle.state.proofs.Find.{isWord-low, isWord-other}
-use Rattle.state.proofs.Label.{bound-word, Counting, label-enters, label-stands}
+use Rattle.state.proofs.Label.{bound-word, label-enters, label-stands}
 use Rattle.placing.specs.Placing.{Formed, Entering, Entered, Standing, lists, Labels}
 use Rattle.state.proofs.Tallies.{label-insertion, label-decrease}
 

@@ -1,25 +1,24 @@
 -- When an arc is taken: the sum fits, its test is the step's, and a head that improves is labelled.
-use Prim.Native.Nat.{ℕ, suc, _+_, _*_, _≤_, _<_}
+use Prim.Native.Nat.{ℕ, _+_, _≤_, _<_}
 use native.Mathlib.Omega.{arith}
 use mathlib.Core.Path.{_≡_, refl, sym, _∙_, ap}
-use mathlib.Core.Bool.{Bool, true, false, cond}
+use mathlib.Core.Bool.{true, false}
 use mathlib.Core.List.{List, [], _∷_}
 use lib.Dec.{ltb}
 use lib.ListN.{length, getD}
 use borrow.Author.Tests.{lt-ltb, le-ltb}
-use Rattle.theory.specs.Sums.{sumBelow}
 use Rattle.theory.specs.Maps.{none}
 use Rattle.theory.specs.Network.{Link, Network}
 use Rattle.theory.specs.Search.{Mark, unlabelled, labelled, scanned, mark, distance, below, improves}
 use Rattle.theory.specs.Heap.{Heap, heapLabel, heapRelax}
 use Rattle.theory.proofs.Sums.{sum-mono, sum-ones}
 use Rattle.theory.proofs.Search.Invariant.{known-low, sums-finite}
-use Rattle.theory.specs.Invariants.{SearchInv, Scanning, known, linksOf, Relaxing}
+use Rattle.theory.specs.Invariants.{Scanning, known, linksOf}
 use Rattle.theory.proofs.Search.Relaxing.{head-node, sum-few}
 use Rattle.theory.proofs.Heap.Run.{improving}
 use Rattle.state.specs.declared.Layout.{Layout}
 use Rattle.state.specs.declared.State.{State}
-use Rattle.state.specs.Stands.{Setting, Lists, Stands}
+use Rattle.state.specs.Stands.{Setting, Lists}
 use Rattle.state.proofs.Tallies.{same-insertions, same-decreases}
 use Rattle.theory.proofs.Lists.{getD-inside}
 use Rattle.placing.specs.Placing.{Labels, Relaxes}

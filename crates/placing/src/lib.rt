@@ -5,7 +5,7 @@ use state::Layout;
 use state::State;
 ghost use mathlib.Core.Path.{_≡_};
 ghost use mathlib.Core.Bool.{true};
-ghost use mathlib.Core.List.{List, _∷_};
+ghost use mathlib.Core.List.{List};
 ghost use Prim.Native.Nat.{ℕ};
 ghost use Rattle.bounds.specs.Words.{boundsOf};
 ghost use Rattle.buckets.specs.Words.{placeBucket};

@@ -5,7 +5,7 @@ use mathlib.Core.Logic.{_⊎_, inl, inr}
 use Prim.Native.Nat.{ℕ, zero, suc, _+_, _-_, _^_, _≤_, _<_}
 use native.Mathlib.Nat.{add-zero, add-suc, suc-add}
 use native.Mathlib.Omega.{arith}
-use borrow.Author.Tests.{lt-ltb, le-ltb, le-leb, lt-leb, ne-eqb}
+use borrow.Author.Tests.{lt-ltb, le-leb, lt-leb, ne-eqb}
 use lib.ListN.{length, getD, replicate}
 use lib.Dec.{leb}
 use Rattle.powers.specs.Powers.{power, entries, powerRow}
@@ -17,10 +17,6 @@ unfolding power
 power-is K zero h = refl
 power-is K (suc i) (inl e) = absurd (omega arith)
 power-is K (suc i) (inr h) = simp (ne-eqb (suc i) 0 (omega arith), lt-ltb (K ^ (suc i - 1)) 1048576 h)
-
-pub power-none : (K i : ℕ) → 1 ≤ i → 1048576 ≤ K ^ (i - 1) → power K i ≡ 0
-unfolding power
-power-none K i p h = simp (ne-eqb i 0 (omega arith), le-ltb (K ^ (i - 1)) 1048576 h)
 
 -- ---- a row
 

@@ -1,13 +1,12 @@
 -- The numbers of a heap between two removals are small.
 use Prim.Native.Nat.{ℕ, _+_, _-_, _*_, _≤_, _<_}
 use native.Mathlib.Omega.{arith}
-use native.Mathlib.Nat.{mul-le-mul-right, mul-le-mul-left}
-use mathlib.Core.Path.{_≡_, refl, sym, _∙_, ap}
+use native.Mathlib.Nat.{mul-le-mul-left}
+use mathlib.Core.Path.{_≡_, _∙_, ap}
 use mathlib.Core.Logic.{inl, inr}
-use mathlib.Core.List.{List, _++_}
+use mathlib.Core.List.{List}
 use borrow.Author.Tests.{lt-ltb, le-ltb}
 use lib.ListN.{length, drop, length-append, length-drop}
-use Rattle.theory.specs.Sums.{sumBelow}
 use Rattle.theory.specs.Search.{mark}
 use Rattle.theory.specs.Heap.{Heap}
 use Rattle.theory.proofs.Cases.{split}
@@ -16,7 +15,7 @@ use Rattle.theory.proofs.Search.Invariant.{known-low, scans-fewer}
 use Rattle.theory.specs.Invariants.{known}
 use Rattle.state.specs.declared.Layout.{Layout}
 use Rattle.state.specs.declared.State.{State}
-use Rattle.state.specs.Stands.{Setting, Lists, Stands}
+use Rattle.state.specs.Stands.{Setting, Lists}
 use Rattle.state.proofs.Tallies.{same-shifts, same-looks}
 use Rattle.bounds.specs.Words.{segmentLooks}
 use Rattle.finding.specs.Finding.{looksOf}

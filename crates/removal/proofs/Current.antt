@@ -1,18 +1,18 @@
 -- A removal of a node at the current key.
-use Prim.Native.Nat.{ℕ, _+_, _-_, _*_, _/_, _≤_, _<_}
+use Prim.Native.Nat.{ℕ, _+_, _-_, _/_, _≤_, _<_}
 use native.Mathlib.Nat.{div-eq-of-lt, div-one, zero-div}
 use native.Mathlib.Omega.{arith}
-use mathlib.Core.Path.{_≡_, refl, sym, _∙_, ap, subst}
+use mathlib.Core.Path.{_≡_, refl, sym, _∙_, subst}
 use mathlib.Core.Bool.{true, false}
 use mathlib.Core.Logic.{inl, inr}
 use mathlib.Core.List.{List}
-use lib.ListN.{length, getD, set}
+use lib.ListN.{getD, set}
 use borrow.Author.Tests.{lt-ltb, le-ltb}
 use Rattle.theory.specs.Shape.{Shape}
 use Rattle.theory.specs.Heap.{Heap, bound, heapRemove}
 use Rattle.theory.proofs.Cases.{split}
 use Rattle.theory.specs.Lawful.{Lawful}
-use Rattle.theory.specs.Invariants.{Labelled, Fits, seg}
+use Rattle.theory.specs.Invariants.{Fits, seg}
 use Rattle.theory.proofs.Heap.Buckets.{late-range}
 use Rattle.bounds.specs.Words.{boundsOf, sizeOf, segmented, segmentNumber, segmentLooks, Agrees}
 use Rattle.bounds.proofs.Segments.{number-inside, number-whole, end-inside, end-whole}
@@ -26,7 +26,7 @@ use Rattle.state.specs.Tallies.{looks, afterEvent}
 use Rattle.state.proofs.Tallies.{same-tally}
 use Rattle.state.proofs.Label.{bound-word}
 use Rattle.state.proofs.Find.{sum-some, counted-word, word-current, current-least, current-fits}
-use Rattle.state.proofs.Remove.{Removing, current-stands}
+use Rattle.state.proofs.Remove.{current-stands}
 use Rattle.placing.specs.Placing.{lists}
 use Rattle.removal.specs.Removing.{Rests, Removal}
 

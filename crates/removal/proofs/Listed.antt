@@ -1,20 +1,17 @@
 -- A removal of the least node of the lowest slot, where no node is at the current key.
-use Prim.Native.Nat.{ℕ, suc, _+_, _-_, _*_, _≤_, _<_}
+use Prim.Native.Nat.{ℕ, _+_, _-_, _*_, _≤_, _<_}
 use native.Mathlib.Omega.{arith}
 use mathlib.Core.Path.{_≡_, refl, sym, _∙_, ap, subst}
-use mathlib.Core.Bool.{cond}
-use mathlib.Core.Logic.{_≢_, _⊎_, inl, inr, ⊎-elim}
+use mathlib.Core.Logic.{_≢_, _⊎_, ⊎-elim}
 use mathlib.Core.List.{List}
-use lib.Dec.{ltb}
 use lib.ListN.{length, getD, set}
 use lib.Seq.{getD-drop}
-use Rattle.theory.specs.Sums.{sumBelow}
 use Rattle.theory.specs.Heap.{Heap, bound, keyOf, boundsAfter, heapRemove}
 use Rattle.theory.proofs.Sums.{sum-at, sum-zero}
-use Rattle.theory.specs.Invariants.{Labelled, Least, Fits, seg}
+use Rattle.theory.specs.Invariants.{Least, Fits, seg}
 use Rattle.theory.proofs.Cases.{same?}
 use Rattle.theory.proofs.Heap.Buckets.{late-range}
-use Rattle.bounds.specs.Words.{boundsOf, segmentNumber, segmentEnd, segmentLooks, reboundWords}
+use Rattle.bounds.specs.Words.{boundsOf, segmentNumber, segmentEnd, reboundWords}
 use Rattle.bounds.proofs.Words.{rebound-words-length, rebound-words-before, rebound-words-after}
 use Rattle.bounds.proofs.Agreement.{after-words-agree, end-reached}
 use Rattle.buckets.specs.Words.{places, placeWord}
@@ -24,7 +21,7 @@ use Rattle.frontier.specs.Frontier.Laws.{bounds-kept, placed-here, placed-other
 use Rattle.state.specs.declared.Layout.{Layout}
 use Rattle.state.specs.declared.State.{State}
 use Rattle.state.specs.Places.{isWord}
-use Rattle.state.specs.Slots.{slotOf, slotWord, keyWord, SlotFits, Enters}
+use Rattle.state.specs.Slots.{slotOf, slotWord, keyWord}
 use Rattle.state.specs.Stands.{Setting, Lists, Stands}
 use Rattle.state.proofs.Slots.{word-far, slot-bucket, slot-below}
 use Rattle.state.specs.Tallies.{looks, afterEvent}

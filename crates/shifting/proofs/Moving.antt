@@ -1,5 +1,5 @@
 -- A node of the segment that is used is moved; and all of them, one after the other.
-use Prim.Native.Nat.{ℕ, suc, _+_, _-_, _*_, _≤_, _<_}
+use Prim.Native.Nat.{ℕ, suc, _+_, _*_, _≤_, _<_}
 use native.Mathlib.Omega.{arith}
 use mathlib.Core.Path.{_≡_, refl, sym, _∙_, ap, subst}
 use mathlib.Core.Bool.{Bool, true, false, cond}
@@ -22,9 +22,8 @@ use Rattle.frontier.specs.Frontier.{Frontier, Placed, FirstLeft}
 use Rattle.frontier.specs.Frontier.Laws.{placed-again, placed-here, placed-other}
 use Rattle.state.specs.declared.Layout.{Layout}
 use Rattle.state.specs.declared.State.{State}
-use Rattle.state.specs.declared.Tally.{Tally}
 use Rattle.state.specs.Places.{isWord}
-use Rattle.state.specs.Slots.{slotOf, slotWord, keyWord, Enters}
+use Rattle.state.specs.Slots.{keyWord, Enters}
 use Rattle.state.proofs.Slots.{same-word, same-enters}
 use Rattle.state.proofs.Find.{isWord-low, isWord-same, isWord-other}
 use Rattle.state.specs.Tallies.{shifts, afterEvent}

@@ -1,5 +1,5 @@
 -- The nodes of the segment that is used, and where they go.
-use Prim.Native.Nat.{ℕ, _+_, _-_, _*_, _≤_, _<_}
+use Prim.Native.Nat.{ℕ, _+_, _*_, _≤_, _<_}
 use mathlib.Core.Path.{_≡_}
 use mathlib.Core.Logic.{_≢_}
 use mathlib.Core.Bool.{cond}
@@ -14,7 +14,7 @@ use Rattle.state.specs.declared.Layout.{Layout}
 use Rattle.state.specs.declared.State.{State}
 use Rattle.state.specs.Places.{isWord}
 use Rattle.state.specs.Tallies.{shifts, afterEvent}
-use Rattle.state.specs.Slots.{slotOf, slotWord, keyWord, SlotFits, Enters}
+use Rattle.state.specs.Slots.{keyWord, Enters}
 use Rattle.placing.specs.Placing.{Formed, Entering, Entered}
 
 -- A shift is counted from a bucket above 1 (document 01, "One-level heap": if j = 1 the node is scanned, and none is shifted).

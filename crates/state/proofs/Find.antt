@@ -1,20 +1,18 @@
 -- What the place words tell: which nodes are labelled and where, and that the lowest slot's least node is the one to scan.
-use Prim.Native.Nat.{ℕ, zero, suc, _+_, _-_, _*_, _/_, _≤_, _<_}
+use Prim.Native.Nat.{ℕ, zero, suc, _+_, _-_, _*_, _≤_, _<_}
 use native.Mathlib.Omega.{arith}
 use mathlib.Core.Path.{_≡_, refl, sym, _∙_, ap}
 use mathlib.Core.Bool.{Bool, true, false, cond}
 use mathlib.Core.Logic.{_≢_, _⊎_, inl, inr, ⊎-elim}
-use mathlib.Core.List.{List, [], _∷_}
+use mathlib.Core.List.{List, []}
 use lib.Dec.{eqb}
-use lib.ListN.{length, getD}
-use borrow.Author.Tests.{eq-eqb, ne-eqb, eqb-true, eqb-false}
+use lib.ListN.{getD}
+use borrow.Author.Tests.{eq-eqb, ne-eqb, eqb-true}
 use Rattle.theory.specs.Sums.{sumBelow}
-use Rattle.theory.specs.Network.{Network}
 use Rattle.theory.specs.Shape.{Shape}
-use Rattle.theory.specs.Search.{Mark, unlabelled, labelled, scanned, mark, distance}
+use Rattle.theory.specs.Search.{mark}
 use Rattle.theory.specs.Heap.{Heap, bound, bucketOf, keyOf, segmentOf}
-use Rattle.theory.proofs.Cases.{split, same?, differ, mark-cases}
-use Rattle.theory.proofs.Sums.{sum-at}
+use Rattle.theory.proofs.Cases.{split, same?, mark-cases}
 use Rattle.theory.proofs.Lists.{getD-inside}
 use Rattle.theory.specs.Invariants.{Labelled, Least, AtRest, Fits, HeapInv}
 use Rattle.theory.proofs.Search.Invariant.{labelled-node}
@@ -24,10 +22,10 @@ use Rattle.buckets.specs.Words.{placeBucket}
 use Rattle.buckets.specs.Words
 use Rattle.buckets.specs.Answer.{InSlot, InBucket}
 use Rattle.buckets.specs.Answer as Answer
-use Rattle.frontier.specs.Frontier.{Current, FirstCurrent}
+use Rattle.frontier.specs.Frontier.{FirstCurrent}
 use Rattle.state.specs.declared.Layout.{Layout}
 use Rattle.state.specs.declared.State.{State}
-use Rattle.state.specs.Places.{wordOf, placeOf, isWord}
+use Rattle.state.specs.Places.{isWord}
 use Rattle.state.specs.Slots.{slotOf, slotWord, SlotFits}
 use Rattle.state.specs.Stands.{Setting, Lists, Stands}
 use Rattle.state.proofs.Places.Label.{place-is}

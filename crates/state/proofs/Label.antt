@@ -1,22 +1,20 @@
 -- An insertion or a decrease in the words is the step's.
-use Prim.Native.Nat.{ℕ, suc, _+_, _-_, _*_, _≤_, _<_}
+use Prim.Native.Nat.{ℕ, _+_, _*_, _≤_, _<_}
 use native.Mathlib.Omega.{arith}
 use mathlib.Core.Path.{_≡_, refl, sym, _∙_, ap}
-use mathlib.Core.Bool.{Bool, true, false, cond}
-use mathlib.Core.Logic.{_≢_, _⊎_, inl, inr, ⊎-elim}
+use mathlib.Core.Bool.{true, cond}
+use mathlib.Core.Logic.{_≢_, ⊎-elim}
 use mathlib.Core.List.{List}
 use lib.Dec.{eqb}
 use lib.ListN.{length, getD, set}
 use lib.Seq.{getD-drop, getD-set-same, getD-set-other}
 use borrow.Author.Tests.{ne-eqb, ltb-true}
-use Rattle.theory.specs.Sums.{sumBelow}
-use Rattle.theory.specs.Network.{Network}
 use Rattle.theory.specs.Shape.{Shape}
-use Rattle.theory.specs.Search.{Mark, unlabelled, labelled, scanned, mark, below, inserted, decreased, label}
+use Rattle.theory.specs.Search.{Mark, unlabelled, labelled, scanned, mark, below, label}
 use Rattle.theory.specs.Heap.{Heap, bound, bucketOf, keyOf, bucketFrom, searchStart, bucketFor, heapLabel}
-use Rattle.theory.proofs.Cases.{same?, differ}
+use Rattle.theory.proofs.Cases.{same?}
 use Rattle.theory.proofs.Sums.{sum-change}
-use Rattle.theory.specs.Invariants.{Fits, HeapInv, Labelling}
+use Rattle.theory.specs.Invariants.{HeapInv, Labelling}
 use Rattle.theory.proofs.Heap.Label.{put}
 use Rattle.bounds.specs.Words.{boundsOf, segmentNumber}
 use Rattle.bounds.proofs.Bucket.{bucketFrom-same}
@@ -25,7 +23,7 @@ use Rattle.buckets.specs.Words.Laws.{places-length}
 use Rattle.frontier.specs.Frontier.{Placed}
 use Rattle.state.specs.declared.Layout.{Layout}
 use Rattle.state.specs.declared.State.{State}
-use Rattle.state.specs.Places.{wordOf, placeOf, isWord}
+use Rattle.state.specs.Places.{isWord}
 use Rattle.state.specs.Slots.{slotWord, keyWord, Enters}
 use Rattle.state.specs.Stands.{Setting, Lists, Stands}
 use Rattle.state.specs.Tallies.{afterLabel}

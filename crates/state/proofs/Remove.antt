@@ -3,14 +3,13 @@ use Prim.Native.Nat.{ℕ, suc, _+_, _-_, _*_, _≤_, _<_}
 use native.Mathlib.Omega.{arith}
 use mathlib.Core.Path.{_≡_, refl, sym, _∙_, ap}
 use mathlib.Core.Bool.{cond}
-use mathlib.Core.Logic.{_≢_, _⊎_, inl, inr, ⊎-elim}
+use mathlib.Core.Logic.{_≢_, inl, inr, ⊎-elim}
 use mathlib.Core.List.{List, [], _∷_, _++_, append-assoc}
-use lib.Dec.{eqb, ltb}
+use lib.Dec.{ltb}
 use lib.ListN.{length, getD, set, drop, length-append}
-use lib.Seq.{getD-drop, getD-set-same, getD-set-other, drop-cons, set-append-seam}
+use lib.Seq.{getD-set-same, getD-set-other, drop-cons, set-append-seam}
 use borrow.Author.Tests.{eq-eqb, ne-eqb, lt-ltb, le-ltb}
 use Rattle.theory.specs.Sums.{sumBelow}
-use Rattle.theory.specs.Network.{Network}
 use Rattle.theory.specs.Shape.{Shape}
 use Rattle.theory.specs.Search.{Mark, unlabelled, labelled, scanned, mark, remove}
 use Rattle.theory.specs.Heap.{Heap, bound, bucketOf, keyOf, bucketFrom, segmentOf, boundsAfter, heapRemove}
@@ -39,7 +38,7 @@ use Rattle.state.proofs.Places.Label.{place-is}
 use Rattle.state.proofs.Places.Remove.{removed-scanned, removed-unlabelled, removed-poured, removed-other, removed-current, first-equal, shifts-first, shifts-sum, poured}
 use Rattle.state.proofs.Slots.{word-far, same-slot, key-fits}
 use Rattle.state.proofs.Label.{bound-word}
-use Rattle.state.proofs.Find.{node, current-least, current-fits, word-current, later, listed-word, slot-word, slot-fits, listed-least, listed-fits, listed-segment}
+use Rattle.state.proofs.Find.{current-least, current-fits, later, listed-word, slot-word, slot-fits, listed-least, listed-fits, listed-segment}
 
 -- One more node on the roster.
 roster-next : (hr before : List ℕ) (v : ℕ) → length hr < length before

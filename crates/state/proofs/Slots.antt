@@ -2,13 +2,12 @@
 use Prim.Native.Nat.{ℕ, suc, _+_, _-_, _*_, _/_, _≤_, _<_}
 use native.Mathlib.Omega.{arith}
 use native.Mathlib.Nat.{mul-le-mul-right}
-use mathlib.Core.Path.{_≡_, refl, sym, _∙_, ap, subst}
+use mathlib.Core.Path.{_≡_, refl, _∙_, ap, subst}
 use mathlib.Core.Bool.{Bool, true, false}
 use mathlib.Core.Logic.{_≢_, inl, inr, ⊎-elim}
 use mathlib.Core.List.{List}
 use lib.Arith.{digits-div}
 use borrow.Author.Tests.{eq-eqb, ne-eqb}
-use Rattle.theory.specs.Network.{Network}
 use Rattle.theory.specs.Shape.{Shape}
 use Rattle.theory.specs.Heap.{bound, bucketFrom}
 use Rattle.theory.proofs.Cases.{split, same?}
@@ -18,7 +17,7 @@ use Rattle.theory.proofs.Heap.Buckets.{late-range}
 use Rattle.bounds.specs.Words.{segmented, segmentNumber, Agrees}
 use Rattle.bounds.proofs.Segments.{segmented-below, number-whole, number-most}
 use Rattle.bounds.proofs.Bucket.{bucketFrom-same}
-use Rattle.buckets.specs.Words.{slotBucket, placeWord}
+use Rattle.buckets.specs.Words.{slotBucket}
 use Rattle.state.specs.Slots.{slotOf, slotWord, keyWord, SlotFits, Enters}
 
 pub word-far : (K b k : ℕ) → 512 ≤ slotWord K b k

@@ -1,11 +1,9 @@
 -- Tallies count by count: when two are equal, what those of the steps say, and what a label is to them. Assumes nothing.
-use Prim.Native.Nat.{ℕ, _+_}
 use native.Mathlib.Omega.{arith}
 use mathlib.Core.Path.{_≡_, refl, ap}
 use Rattle.theory.specs.Search.{unlabelled, labelled}
-use Rattle.theory.specs.Heap.{Heap}
 use Rattle.state.specs.declared.Tally.{Tally}
-use Rattle.state.specs.Tallies.{insertion, decrease, afterEvent, afterLabel, countsOf}
+use Rattle.state.specs.Tallies.{insertion, decrease, afterEvent, afterLabel}
 
 -- Tallies are equal where each count is.
 pub same-tally : {t t′ : Tally} → t .insertions ≡ t′ .insertions → t .decreases ≡ t′ .decreases → t .shifts ≡ t′ .shifts → t .looks ≡ t′ .looks → t ≡ t′

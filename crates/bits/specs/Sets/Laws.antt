@@ -5,13 +5,12 @@ use mathlib.Core.List.{List}
 use Prim.Native.Nat.{ℕ, _+_, _*_, _/_, _%_, _^_, _≤_, _<_}
 use native.Mathlib.Nat.{div-lt-iff-lt-mul}
 use native.Mathlib.Omega.{arith}
-use native.Mathlib.Decide.{ℕ-discrete}
 use lib.ListN.{length, getD, set, length-set}
 use lib.Pow.{pow-pos}
 use lib.Seq.{getD-set-other}
 use Rattle.bits.specs.Word.{bit}
 use Rattle.bits.specs.Word.Laws.{bit-cases, bit-of-zero}
-use Rattle.bits.specs.Sets.{bitWords, summaryWords, at, In, Room, BitSet, Outside, Kept, Alike, Inserted, Taken}
+use Rattle.bits.specs.Sets.{bitWords, summaryWords, at, In, Room, BitSet, Outside, Kept, Alike}
 use Rattle.bits.specs.Sets.Places.{split, word-below, out-of}
 
 -- a node is in the set or not
@@ -117,31 +116,3 @@ kept-refl d n bits summary w = record { same-length = refl; outside = λ j o. re
 pub kept-trans : {d n bits summary : ℕ} {w w′ w″ : List ℕ} → Kept d n bits summary w w′ → Kept d n bits summary w′ w″
     → Kept d n bits summary w w″
 kept-trans k l = record { same-length = l .same-length ∙ k .same-length; outside = λ j o. l .outside j o ∙ k .outside j o }
-
--- ---- what the promises say of one node u
-
-module _ {d n bits summary : ℕ} {w w′ : List ℕ} {v : ℕ} (I : Inserted d n bits summary w w′ v) (u : ℕ) where
-  pub inserted-has : (u ≡ v) ⊎ In d n bits w u → In d n bits w′ u
-  inserted-has p = go (ℕ-discrete u v) p
-    where
-      go : Dec (u ≡ v) → (u ≡ v) ⊎ In d n bits w u → In d n bits w′ u
-      go (yes e) q = subst (λ (k : ℕ). In d n bits w′ k) (sym e) (I .here)
-      go (no g) (inl e) = absurd (g e)
-      go (no g) (inr m) = I .changed .stays u g m
-
-  pub inserted-only : In d n bits w′ u → (u ≡ v) ⊎ In d n bits w u
-  inserted-only m = go (ℕ-discrete u v)
-    where
-      go : Dec (u ≡ v) → (u ≡ v) ⊎ In d n bits w u
-      go (yes e) = inl e
-      go (no g) = inr (I .changed .was u g m)
-
-module _ {d n bits summary : ℕ} {w w′ : List ℕ} {v : ℕ} (T : Taken d n bits summary w w′ v) (u : ℕ) where
-  pub taken-has : u ≢ v → In d n bits w u → In d n bits w′ u
-  taken-has g m = T .removed .changed .stays u g m
-
-  pub taken-only : In d n bits w′ u → (v < u) × In d n bits w u
-  taken-only m =
-      let g : u ≢ v = λ e. T .removed .gone (subst (λ (k : ℕ). In d n bits w′ k) e m) in
-      let old : In d n bits w u = T .removed .changed .was u g m in
-      (omega (arith, T .smallest .least u old), old)

@@ -110,14 +110,6 @@ bit-of-zero k = ap (λ (y : ℕ). y % 2) (zero-div (2 ^ k))
 pub nonzero : (x k : ℕ) → bit x k ≡ 1 → x ≢ 0
 nonzero x k h e = let z : bit x k ≡ 0 = ap (λ (y : ℕ). bit y k) e ∙ bit-of-zero k in omega arith
 
-pub all-clear : (d x : ℕ) → x < 2 ^ d → ((k : ℕ) → k < d → bit x k ≡ 0) → x ≡ 0
-all-clear zero x f h = omega arith
-all-clear (suc d) x f h =
-    let g : x / 2 ≡ 0 =
-    all-clear d (x / 2) (omega (arith, two-pow-succ d)) (λ k l. sym (bit-suc x k) ∙ h (suc k) (omega arith)) in
-    let z : bit x 0 ≡ 0 = h 0 (omega arith) in
-    omega (arith, bit-zero x)
-
 -- ---- the lowest set bit of a word that is not 0 is where its trailing zeros end
 
 pub lowest-lt : (d x : ℕ) → x ≢ 0 → x < 2 ^ d → trailingZeros d x < d

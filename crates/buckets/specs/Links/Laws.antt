@@ -3,14 +3,13 @@
 use mathlib.Core.Path.{_≡_, sym, ap, _∙_, subst}
 use mathlib.Core.Logic.{inl, inr, _≢_}
 use mathlib.Core.List.{List, []}
-use Prim.Native.Nat.{ℕ, suc, _+_, _*_, _≤_, _<_}
+use Prim.Native.Nat.{ℕ, _+_, _*_, _≤_, _<_}
 use native.Mathlib.Omega.{arith}
-use native.Mathlib.Decide.{ℕ-discrete}
 use lib.ListN.{length, getD, set, replicate, length-set, length-replicate, getD-replicate}
 use lib.Seq.{getD-set-same, getD-set-other, set-set}
 use Rattle.buckets.specs.Answer.{InSlot, InBucket}
 use Rattle.buckets.specs.Tally.{tally}
-use Rattle.buckets.specs.Tally.Laws.{tally-leave, tally-enter, tally-stay, tally-zero}
+use Rattle.buckets.specs.Tally.Laws.{tally-stay, tally-zero}
 use Rattle.buckets.specs.Words.{placeWord, placeBucket, placeSlot, Held, Free, Named, places, heads, slotBucket, bucketCount, countAt, owned, Ours, Other, WordsFit}
 use Rattle.buckets.specs.Words.Laws.{named-bucket, kept-trans, place-word, places-length, places-are, places-same, places-moved}
 use Rattle.buckets.specs.Links.{Slot, Counted, Linked, Moved}
@@ -43,18 +42,6 @@ module _ {n slots segments : ℕ} {words : List ℕ} (L : Linked n slots segment
 
       place : places n words′ ≡ places n words
       place = places-same n words words′ long size (λ v h. same (2 * n + v) (inl (omega arith)))
-
-  -- so a store to any other word leaves the lists, and the places, as they are
-  pub linked-set : (j x : ℕ) → Other n (owned slots segments) j
-      → Linked n slots segments (set words j x) × (places n (set words j x) ≡ places n words)
-  linked-set j x o =
-      linked-words (length-set words j x) (λ i h. getD-set-other words j i x 0 (off i h o))
-    where
-      off : (i : ℕ) → Ours n (owned slots segments) i → Other n (owned slots segments) j → i ≢ j
-      off i (inl h) (inl g) = omega arith
-      off i (inl h) (inr g) = omega arith
-      off i (inr h) (inl g) = omega arith
-      off i (inr h) (inr g) = omega arith
 
   -- ---- what a place word tells
 
@@ -191,33 +178,6 @@ module _ {n slots segments : ℕ} {words words′ : List ℕ} {v x : ℕ} (L : L
 
   pub moved-other : (u : ℕ) → u ≢ v → getD (places n words′) u 0 ≡ getD (places n words) u 0
   moved-other u d = ap (λ (l : List ℕ). getD l u 0) (m .place) ∙ getD-set-other (places n words) v u x 0 d
-
-  -- what holds of v at x, and of every other node at its old place word, holds of every node at its new one
-  pub moved-each : v < n → (P : ℕ → ℕ → Type 0) → P v x → ((u : ℕ) → u < n → u ≢ v → P u (getD (places n words) u 0))
-      → (u : ℕ) → u < n → P u (getD (places n words′) u 0)
-  moved-each hv P here other u h = go (ℕ-discrete u v)
-    where
-      go : Dec (u ≡ v) → P u (getD (places n words′) u 0)
-      go (yes e) =
-          subst (λ (k : ℕ). P k (getD (places n words′) k 0)) (sym e) (subst (λ (k : ℕ). P v k) (sym (moved-here hv)) here)
-      go (no d) = subst (λ (k : ℕ). P u k) (sym (moved-other u d)) (other u h d)
-
-  -- how many nodes have a place word of a kind: one fewer, one more, or as many
-  module _ (hv : v < n) (kind : ℕ → ℕ) (k : ℕ) where
-    size : v < length (places n words)
-    size = omega (arith, places-length n words (long L))
-
-    tally-place : tally kind k (places n words′) ≡ tally kind k (set (places n words) v x)
-    tally-place = ap (λ (l : List ℕ). tally kind k l) (m .place)
-
-    pub moved-leave : kind (getD (places n words) v 0) ≡ k → kind x ≢ k → suc (tally kind k (places n words′)) ≡ tally kind k (places n words)
-    moved-leave e d = ap suc tally-place ∙ tally-leave kind k (places n words) v x size e d
-
-    pub moved-enter : (kind (getD (places n words) v 0) ≡ k → ⊥) → kind x ≡ k → tally kind k (places n words′) ≡ suc (tally kind k (places n words))
-    moved-enter d e = tally-place ∙ tally-enter kind k (places n words) v x size d e
-
-    pub moved-stay : (kind (getD (places n words) v 0) ≡ k → ⊥) → kind x ≢ k → tally kind k (places n words′) ≡ tally kind k (places n words)
-    moved-stay d e = tally-place ∙ tally-stay kind k (places n words) v x size d e
 
   -- two moves of one node are one
   pub moved-again : {words″ : List ℕ} {y : ℕ} → Moved n slots segments words′ words″ v y → Moved n slots segments words words″ v y

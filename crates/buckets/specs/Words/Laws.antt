@@ -7,10 +7,10 @@ use Prim.Native.Nat.{ℕ, zero, suc, _+_, _*_, _-_, _/_, _≤_, _<_}
 use native.Mathlib.Nat.{suc-inj, div-le-self, div-eq-of-lt-le, div-mul-le-self, le-div-iff-mul-le, div-lt-iff-lt-mul, div-one}
 use native.Mathlib.Decide.{ℕ-discrete, decLt}
 use native.Mathlib.Omega.{arith}
-use lib.ListN.{length, getD, set, take, drop, length-set, length-take, length-drop}
+use lib.ListN.{length, getD, set, drop, length-set, length-take, length-drop}
 use lib.Seq.{getD-set-same, getD-set-other, getD-take, getD-drop, ext-getD}
 use borrow.Author.Tests.{lt-ltb, le-ltb}
-use Rattle.buckets.specs.Words.{slotBucket, placeWord, placeBucket, placeSlot, nodeOr, Named, places, bucketCount, countWords, countAt, recount, Other, WordsKept, WordsFit}
+use Rattle.buckets.specs.Words.{slotBucket, placeWord, placeBucket, placeSlot, nodeOr, Named, places, bucketCount, countWords, countAt, recount, WordsKept, WordsFit}
 
 -- ---- buckets of slots
 
@@ -146,20 +146,6 @@ kept-refl n own words = record { same-length = refl; same = λ j o. refl }
 pub kept-trans : {n own : ℕ} {words words′ words″ : List ℕ} → WordsKept n own words words′ → WordsKept n own words′ words″ → WordsKept n own words words″
 kept-trans a b =
     record { same-length = b .same-length ∙ a .same-length; same = λ j o. b .same j o ∙ a .same j o }
-
--- a part of the list that holds none of the lists' words
-pub kept-part : {n own : ℕ} {words words′ : List ℕ} → WordsKept n own words words′ → (from size : ℕ)
-    → ((j : ℕ) → from ≤ j → j < from + size → Other n own j)
-    → take size (drop from words′) ≡ take size (drop from words)
-kept-part {n} {own} {words} {words′} k from size other =
-    ext-getD 0 (take size (drop from words′)) (take size (drop from words))
-    (simp (length-take, length-drop, k .same-length))
-    (λ i h.
-    let g : i < size = omega (arith, simp (length-take, length-drop) at h) in
-    at words′ i g ∙ k .same (from + i) (other (from + i) (omega arith) (omega arith)) ∙ sym (at words i g))
-  where
-    at : (l : List ℕ) (i : ℕ) → i < size → getD (take size (drop from l)) i 0 ≡ getD l (from + i) 0
-    at l i g = getD-take size (drop from l) i 0 g ∙ getD-drop from l i 0
 
 -- ---- next and head words
 

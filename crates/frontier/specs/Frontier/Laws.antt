@@ -2,17 +2,17 @@
 use Prim.Native.Nat.{ℕ, _+_, _*_, _≤_, _<_}
 use native.Mathlib.Omega.{arith}
 use mathlib.Core.Path.{_≡_, refl, sym, _∙_, ap}
-use mathlib.Core.Logic.{_⊎_, inl, inr, _≢_, ⊎-elim}
+use mathlib.Core.Logic.{_⊎_, inl, inr, _≢_}
 use mathlib.Core.List.{List}
 use lib.ListN.{length, getD, set, replicate, getD-replicate, length-set}
 use lib.Seq.{getD-set-same, getD-set-other, set-set}
 use native.Mathlib.Decide.{ℕ-discrete}
 use Rattle.bits.specs.Sets.{bitWords, summaryWords, In, Inhabited, BitSet, Room, Outside, Alike, Kept, Changed, Inserted, Taken}
-use Rattle.bits.specs.Sets.Laws.{zero-set, zero-none, alike-sym, alike-in, alike-set, alike-store, inserted-has, inserted-only, taken-has, taken-only}
-use Rattle.buckets.specs.Words.{places, heads, owned, Ours, Other, WordsFit}
-use Rattle.buckets.specs.Words.Laws.{places-length, place-word}
+use Rattle.bits.specs.Sets.Laws.{zero-set, zero-none, alike-sym, alike-in, alike-set, alike-store}
+use Rattle.buckets.specs.Words.{places, owned, Ours, Other, WordsFit}
+use Rattle.buckets.specs.Words.Laws.{places-length}
 use Rattle.buckets.specs.Links.{Linked, Moved}
-use Rattle.buckets.specs.Links.Laws.{linked-words, linked-zero, linked-mark, moved-here, moved-other, moved-again}
+use Rattle.buckets.specs.Links.Laws.{linked-words, linked-zero, linked-mark, moved-here, moved-other}
 use Rattle.buckets.specs.Answer.{FirstTaken}
 use Rattle.buckets.specs.declared.Found.{Found}
 use Rattle.buckets.specs.declared.Found.the-variants.{At, Nothing}

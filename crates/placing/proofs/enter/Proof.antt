@@ -1,5 +1,5 @@
 -- `placing::enter` meets its contract.
-use Prim.Native.Nat.{ℕ, _+_, _-_, _*_, _≤_, _<_}
+use Prim.Native.Nat.{_+_, _-_, _*_, _≤_, _<_}
 use native.Mathlib.Omega.{arith}
 use Rattle.placing.proofs.Entering.{entered-current, slot-fits, under, bucket-read, segment-low, in-bucket, in-slots, few, entered-slot}
 use borrow.Author.Needs.{needs}

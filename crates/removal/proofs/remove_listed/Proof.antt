@@ -5,7 +5,7 @@ use lib.ListN.{getD}
 use denote.Ref.{now}
 use Rattle.state.specs.declared.State.{State}
 use Rattle.finding.specs.Finding.{looksOf}
-use mathlib.Core.Path.{_≡_, refl, _∙_, ap}
+use mathlib.Core.Path.{refl, _∙_, ap}
 use Rattle.state.specs.Tallies.{looks, afterEvent}
 use Rattle.removal.proofs.Counts.{reached-low, roster-long, nodes-few, looks-few, looks-most}
 use Rattle.removal.proofs.Listed.{listed-holds, bucket-some, slot-in, distances-long, held, renews, Taken, words-distribute, words-removed}

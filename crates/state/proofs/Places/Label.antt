@@ -1,12 +1,11 @@
 -- What an insertion or a decrease makes of the place words: the node's own changes, and no other.
-use Prim.Native.Nat.{ℕ, _<_}
+use Prim.Native.Nat.{ℕ}
 use native.Mathlib.Omega.{arith}
 use mathlib.Core.Path.{_≡_, refl, _∙_}
 use mathlib.Core.List.{List}
 use mathlib.Core.Bool.{cond}
 use mathlib.Core.Logic.{_≢_}
 use lib.Dec.{eqb}
-use lib.ListN.{length}
 use lib.Seq.{getD-set-same, getD-set-other}
 use Rattle.theory.specs.Network.{Network}
 use Rattle.theory.specs.Search.{Mark, unlabelled, labelled, scanned, mark, asLabelled, label}

@@ -4,7 +4,7 @@ use Prim.Native.Nat.{ℕ, _+_, _≤_, _<_}
 use native.Mathlib.Omega.{arith}
 use mathlib.Core.Path.{_≡_, refl, sym, _∙_, ap}
 use mathlib.Core.Bool.{Bool, true, false, cond}
-use mathlib.Core.Logic.{_≢_, _⊎_, inl, inr, ⊎-elim}
+use mathlib.Core.Logic.{_≢_, inl, inr, ⊎-elim}
 use mathlib.Core.List.{List}
 use lib.Dec.{eqb}
 use lib.ListN.{length}
@@ -24,7 +24,7 @@ use Rattle.theory.proofs.Heap.Bounds.{after-same}
 use Rattle.theory.proofs.Heap.Buckets.{fits-order}
 use Rattle.theory.proofs.Heap.Invariant.{first-keys}
 use Rattle.theory.proofs.Heap.Remove.{Shifts, shifts-true, shifts-false, move-labelled, removed-bucket}
-use Rattle.state.specs.Places.{wordOf, placeOf, isWord}
+use Rattle.state.specs.Places.{placeOf, isWord}
 use Rattle.state.proofs.Places.Label.{place-is}
 
 shifts?-true : {j k w v b l : ℕ} → Shifts j k w v b l → shifts? j k w v b l ≡ true

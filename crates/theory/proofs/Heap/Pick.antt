@@ -74,14 +74,6 @@ module _ {N : Network} {sh : Shape} {C S : ℕ} (law : Lawful sh C S) {last : �
       back (idle no-one) a = absurd (no-one v (a .on))
       back (takes f min) a = same-lowest (lowest-of-min f min) a
 
-  -- The node picked has the smallest of all labelled keys, and of such nodes the smallest number.
-  pub pick-min : (j k d v : ℕ) → pick sh h (N .nodes) ≡ picked j k d v → Least (h .search) v d × Fits sh (h .bounds) j d
-  pick-min j k d v e = go (chooses law rest inv) e
-    where
-      go : {p : Pick} {c : Choice} → Choose sh h p c → p ≡ picked j k d v → Least (h .search) v d × Fits sh (h .bounds) j d
-      go (idle no-one) q = differ (cc)
-      go (takes {j = i} {d = x} {v = w} f min) q = let qj : j ≡ i = cc in let qd : d ≡ x = cc in let qv : v ≡ w = cc in rw (qj, qd, qv) (min, f)
-
   -- Nothing is picked exactly when nothing is labelled.
   pub pick-nothing : pick sh h (N .nodes) ≡ nothing ↔ ((v : ℕ) → Labelled (h .search) v → ⊥)
   pick-nothing = (λ e. there (chooses law rest inv) e, λ no-one. back (chooses law rest inv) no-one)

@@ -1,4 +1,4 @@
--- `nearest` chooses the labelled node of smallest distance, and of smallest number among equals; there is one such node.
+-- `nearest` chooses the labelled node of smallest distance, and of smallest number among equals.
 use Prim.Native.Nat.{ℕ, zero, suc, _<_}
 use mathlib.Core.Path.{_≡_, refl, sym, _∙_}
 use mathlib.Core.Logic.{inl, inr}
@@ -11,11 +11,6 @@ use Rattle.theory.specs.Search.{Mark, unlabelled, labelled, scanned, Sea
 use Rattle.theory.specs.Invariants.{LeastOf, Labelled, LabelledBelow, Least}
 use Rattle.theory.proofs.Cases.{split, labelled≢scanned, labelled≢unlabelled}
 use Rattle.theory.proofs.Lists.{inside}
-
-pub least-unique : (s : Search) {v w d e : ℕ} → Least s v d → Least s w e → (v ≡ w) × (d ≡ e)
-least-unique s {v} {w} {d} {e} a b =
-    let q : d ≡ e = omega (arith, a .least w (b .member), b .least v (a .member), a .key, b .key) in
-    (omega (arith, a .first w (b .member) (b .key ∙ sym q), b .first v (a .member) (a .key ∙ q)), q)
 
 -- What a choice says of the nodes below n.
 pub data Chosen (s : Search) (n : ℕ) : Choice → Type 0 where
@@ -94,18 +89,3 @@ nearest-right s n long = go (nearest s n) (chosen-below s n)
       least = λ w on. a .least w (in-range w on, on);
       first = λ w on q. a .first w (in-range w on, on) q;
     }
-
--- The one such node is the one that is chosen.
-pub nearest-is : (s : Search) (n v d : ℕ) → length (s .marks) ≡ n → Least s v d → nearest s n ≡ chosen v d
-nearest-is s n v d long a = go (nearest s n) (nearest-right s n long)
-  where
-    go : (c : Choice) → Right s c → c ≡ chosen v d
-    go nothing h = absurd (h v (a .member))
-    go (chosen w e) h = let q = least-unique s a h in cc (q .0, q .1)
-
-pub nearest-nothing : (s : Search) (n : ℕ) → length (s .marks) ≡ n → ((v : ℕ) → Labelled s v → ⊥) → nearest s n ≡ nothing
-nearest-nothing s n long no-one = go (nearest s n) (nearest-right s n long)
-  where
-    go : (c : Choice) → Right s c → c ≡ nothing
-    go nothing h = refl
-    go (chosen w e) h = absurd (no-one w (h .member))
