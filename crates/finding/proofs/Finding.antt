@@ -9,7 +9,7 @@ use lib.ListN.{getD}
 use Rattle.theory.proofs.Cases.{split, differ}
 use Rattle.buckets.specs.Words.{places, placeBucket, slotBucket, bucketCount}
 use Rattle.buckets.specs.Words.Laws.{bucket-count, bucket-range}
-use Rattle.buckets.specs.Answer.{InSlot, InBucket, Some, EmptyBucket, FirstIn}
+use Rattle.buckets.specs.Answer.{InSlot, InBucket, Some, None, EmptyBucket, FirstIn}
 use Rattle.buckets.specs.declared.Found.{Found}
 use Rattle.buckets.specs.declared.Found.the-variants.{At, Nothing}
 use Rattle.model.specs.declared.Node.{Node}
@@ -18,34 +18,37 @@ use Rattle.state.specs.declared.Layout.{Layout}
 use Rattle.state.specs.Slots.{slotOf}
 use Rattle.finding.specs.Finding.{Holds, LowestBucket, InBucketSome, LowestSegment}
 
+-- ---- a test of one after the other
+
+-- Of those that are counted from 1, the ones below i are empty, and a node stands in the last, which is i or above.
+pub record From (Within : ℕ → ℕ → Type 0) (last i : ℕ) : Type 0 where
+  pub low : 1 ≤ i
+  pub lower : (m w : ℕ) → 1 ≤ m → m < i → Within m w → ⊥
+  pub held : Some (Within last)
+  pub high : i ≤ last
+
+from-next : {Within : ℕ → ℕ → Type 0} {last i : ℕ} → From Within last i → None (Within i) → From Within last (i + 1)
+from-next {last = last} {i} F none = record {
+  low = omega arith;
+  lower = λ m w l k h. elim (split m i) [ inl j ↦ F .lower m w l j h | inr j ↦ let e : m ≡ i = omega arith in none w (rw e at h) ];
+  held = F .held;
+  high = elim (split i last) [
+    | inl l ↦ omega (arith, l)
+    | inr l ↦ let e : last ≡ i = omega (arith, F .high) in absurd (none (F .held .node) (rw e at (F .held .holds)))
+  ];
+}
+
 -- ---- buckets
 
 -- The buckets below this one are empty, and a node stands in this one or above.
 pub record Above (n : ℕ) (words : List ℕ) (bucket : ℕ) : Type 0 where
-  pub low : 1 ≤ bucket
-  pub lower : (b w : ℕ) → 1 ≤ b → b < bucket → InBucket n b words w → ⊥
   pub top : ℕ
-  pub held : Some (InBucket n top words)
-  pub high : bucket ≤ top
+  pub from : From (λ b. InBucket n b words) top bucket
   pub few : top ≤ 22
 
 pub above-next : {n bucket : ℕ} {words : List ℕ} → Above n words bucket → (r : Bool) → EmptyBucket n bucket words r → not r ≡ false → Above n words (bucket + 1) × (22 - (bucket + 1) < 22 - bucket)
-above-next {bucket = bucket} A false some e = differ (cc)
-above-next {bucket = bucket} A true none e =
-    let less : bucket < A .top = elim (split bucket (A .top)) [
-      | inl l ↦ l
-      | inr l ↦ let e : A .top ≡ bucket = omega (arith, A .high) in absurd (none (A .held .node) (rw e at (A .held .holds)))
-    ] in (
-      record {
-        low = omega arith;
-        lower = λ b w l k i. elim (split b bucket) [ inl m ↦ A .lower b w l m i | inr m ↦ let e : b ≡ bucket = omega arith in none w (rw e at i) ];
-        top = A .top;
-        held = A .held;
-        high = omega arith;
-        few = A .few;
-      },
-      omega (arith, A .few),
-    )
+above-next A false some e = differ (cc)
+above-next A true none e = let F = from-next (A .from) none in (record { top = A .top; from = F; few = A .few }, omega (arith, F .high, A .few))
 
 module _ {layout : Layout} {words : List ℕ} (H : Holds layout words) where
   count-is : bucketCount (layout .slots) (layout .segments) ≡ layout .buckets
@@ -60,62 +63,43 @@ module _ {layout : Layout} {words : List ℕ} (H : Holds layout words) where
   above-start =
       let h = held-bucket (H .frontier .linked) (H .node) (H .below) (H .held) in
       record {
-        low = omega arith;
-        lower = λ b w l k. absurd (omega arith);
         top = placeBucket (getD (places (layout .nodes) words) (H .node) 0);
-        held = record { node = H .node; holds = (H .below, refl) };
-        high = h .0;
+        from = record { low = omega arith; lower = λ b w l k. absurd (omega arith); held = record { node = H .node; holds = (H .below, refl) }; high = h .0 };
         few = omega (arith, h .1, count-is, H .few);
       }
 
   module _ {bucket : ℕ} (A : Above (layout .nodes) words bucket) where
     pub above-range : (0 < bucket) × (bucket ≤ bucketCount (layout .slots) (layout .segments))
-    above-range = (A .low, omega (arith, A .high, in-range (A .top) (A .held .node) (omega (arith, A .low, A .high)) (A .held .holds), count-is))
+    above-range =
+        let F = A .from in
+        (F .low, omega (arith, F .high, in-range (A .top) (F .held .node) (omega (arith, F .low, F .high)) (F .held .holds), count-is))
 
     pub above-end : (r : Bool) → EmptyBucket (layout .nodes) bucket words r → not r ≡ true → LowestBucket layout words bucket
     above-end true none e = differ (cc)
-    above-end false some e = record { low = A .low; high = in-range bucket (some .node) (A .low) (some .holds); some = some; lower = A .lower }
+    above-end false some e = record { low = A .from .low; high = in-range bucket (some .node) (A .from .low) (some .holds); some = some; lower = A .from .lower }
 
 -- ---- segments
 
 -- The segments of the bucket below this one are empty, and a node stands in this one or above.
 pub record Past (n slots K : ℕ) (words : List ℕ) (bucket k : ℕ) : Type 0 where
-  pub low : 1 ≤ k
-  pub earlier : (m w : ℕ) → 1 ≤ m → m < k → InSlot n K (slotOf K bucket m) words w → ⊥
   pub last : ℕ
-  pub held : Some (InSlot n K (slotOf K bucket last) words)
-  pub high : k ≤ last
+  pub from : From (λ m. InSlot n K (slotOf K bucket m) words) last k
   pub most : last ≤ K
   pub below : slotOf K bucket last < slots
 
-pub past-next : {n slots K bucket k : ℕ} {words : List ℕ} → Past n slots K words bucket k → ((w : ℕ) → InSlot n K (slotOf K bucket k) words w → ⊥)
+pub past-next : {n slots K bucket k : ℕ} {words : List ℕ} → Past n slots K words bucket k → None (InSlot n K (slotOf K bucket k) words)
     → Past n slots K words bucket (k + 1) × (K - (k + 1) < K - k)
-past-next {k = k} P none =
-    let less : k < P .last = elim (split k (P .last)) [
-      | inl l ↦ l
-      | inr l ↦ let e : P .last ≡ k = omega (arith, P .high) in absurd (none (P .held .node) (rw e at (P .held .holds)))
-    ] in (
-      record {
-        low = omega arith;
-        earlier = λ m w l j i. elim (split m k) [ inl o ↦ P .earlier m w l o i | inr o ↦ let e : m ≡ k = omega arith in none w (rw e at i) ];
-        last = P .last;
-        held = P .held;
-        high = omega arith;
-        most = P .most;
-        below = P .below;
-      },
-      omega (arith, P .most),
-    )
+past-next P none = let F = from-next (P .from) none in (record { last = P .last; from = F; most = P .most; below = P .below }, omega (arith, F .high, P .most))
 
 -- What the test of a slot says.
-pub past-empty : (n K slot : ℕ) (words : List ℕ) (f : Found) → FirstIn n K slot words f → f ≡ Nothing → (w : ℕ) → InSlot n K slot words w → ⊥
+pub past-empty : (n K slot : ℕ) (words : List ℕ) (f : Found) → FirstIn n K slot words f → f ≡ Nothing → None (InSlot n K slot words)
 past-empty n K slot words f first e = subst (λ (f : Found). FirstIn n K slot words f) e first
 
 pub past-held : (n K slot : ℕ) (words : List ℕ) (f : Found) {v : Node} → FirstIn n K slot words f → f ≡ At v → InSlot n K slot words (v .0)
 past-held n K slot words f first e = subst (λ (f : Found). FirstIn n K slot words f) e first
 
 pub past-below : {n slots K bucket k : ℕ} {words : List ℕ} → Past n slots K words bucket k → slotOf K bucket k < slots
-past-below P = omega (arith, P .low, P .high, P .below)
+past-below P = omega (arith, P .from .low, P .from .high, P .below)
 
 module _ {layout : Layout} {words : List ℕ} {bucket : ℕ} (H : InBucketSome layout words bucket) where
   abbrev K : ℕ
@@ -136,11 +120,8 @@ module _ {layout : Layout} {words : List ℕ} {bucket : ℕ} (H : InBucketSome l
   past-start =
       let e : slotOf K bucket (known .0 - (bucket - 1) * K + 1) ≡ known .0 = omega (arith, known-range .0) in
       record {
-        low = omega arith;
-        earlier = λ m w l k. absurd (omega arith);
         last = known .0 - (bucket - 1) * K + 1;
-        held = record { node = H .some .node; holds = rw e (known .3) };
-        high = omega arith;
+        from = record { low = omega arith; lower = λ m w l k. absurd (omega arith); held = record { node = H .some .node; holds = rw e (known .3) }; high = omega arith };
         most = omega (arith, known-range);
         below = omega (arith, e, known .1);
       }
@@ -154,10 +135,10 @@ module _ {layout : Layout} {words : List ℕ} {bucket : ℕ} (H : InBucketSome l
       slot = record {
         first = H .low;
         last = H .high;
-        low = P .low;
-        high = omega (arith, P .high, P .most);
-        whole = λ e. let m : (bucket - 1) * K ≡ (layout .buckets - 1) * K = ap (λ (b : ℕ). (b - 1) * K) e in omega (arith, P .low, past-below P, H .slots);
+        low = P .from .low;
+        high = omega (arith, P .from .high, P .most);
+        whole = λ e. let m : (bucket - 1) * K ≡ (layout .buckets - 1) * K = ap (λ (b : ℕ). (b - 1) * K) e in omega (arith, P .from .low, past-below P, H .slots);
       };
       some = record { node = w; holds = i };
-      earlier = P .earlier;
+      earlier = P .from .lower;
     }

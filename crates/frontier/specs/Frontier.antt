@@ -4,7 +4,7 @@ pub mod Laws
 use Prim.Native.Nat.{ℕ, _+_, _*_, _≤_, _<_}
 use mathlib.Core.Path.{_≡_}
 use mathlib.Core.List.{List}
-use lib.ListN.{length, getD, set}
+use lib.ListN.{length, getD, set, drop}
 use Rattle.bits.specs.Sets.{BitSet, In}
 use Rattle.buckets.specs.Words.{places}
 use Rattle.buckets.specs.Links.{Linked}
@@ -27,7 +27,7 @@ pub record Placed (n slots segments : ℕ) (w w′ : List ℕ) (v x : ℕ) : Typ
   pub frontier : Frontier n slots segments w′
   pub place : places n w′ ≡ set (places n w) v x
   pub same-length : length w′ ≡ length w
-  pub bounds : (i : ℕ) → i < 24 → getD w′ (4 * n + i) 0 ≡ getD w (4 * n + i) 0
+  pub bounds : (i : ℕ) → i < 24 → getD (drop (4 * n) w′) i 0 ≡ getD (drop (4 * n) w) i 0
 
 -- Some node stands at the current key (document 01, "The search").
 pub record Current (n : ℕ) (w : List ℕ) : Type 0 where

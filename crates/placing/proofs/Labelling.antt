@@ -5,7 +5,7 @@ use mathlib.Core.Path.{_≡_, refl, sym, _∙_, ap}
 use mathlib.Core.Logic.{_≢_, inl, inr}
 use mathlib.Core.List.{List}
 use lib.ListN.{length, getD, set}
-use lib.Seq.{getD-drop, set-getD}
+use lib.Seq.{set-getD}
 use borrow.Author.Tests.{ne-eqb, ltb-true}
 use Rattle.theory.specs.Sums.{sumBelow}
 use Rattle.theory.specs.Shape.{Shape}
@@ -30,7 +30,7 @@ use Rattle.state.specs.Tallies.{insertion, decrease, afterEvent}
 use Rattle.state.proofs.Places.Label.{place-is}
 use Rattle.state.proofs.Slots.{word-far, slot-bucket, slot-below, key-fits}
 use Rattle.state.proofs.Find.{isWord-low, isWord-other}
-use Rattle.state.proofs.Label.{bound-word, label-enters, label-stands}
+use Rattle.state.proofs.Label.{label-enters, label-stands}
 use Rattle.placing.specs.Placing.{Formed, Entering, Entered, Standing, lists, Labels}
 use Rattle.state.proofs.Tallies.{label-insertion, label-decrease}
 
@@ -125,7 +125,7 @@ module _ {layout : Layout} {sizes : List ℕ} {X : Setting layout sizes} {before
     frontier = T .frontier;
     node = node;
     unlabelled = e;
-    enters = rw (start-fresh (fresh e)) at (label-enters X T (L .inv) (L .labelling) (L .late) (boundsOf n (l .words)) (bound-word T));
+    enters = rw (start-fresh (fresh e)) at (label-enters X T (L .inv) (L .labelling) (L .late) (boundsOf n (l .words)) (T .bounds));
   }
 
   pub fresh-stands : place ≡ 0 → {w′ : List ℕ} {r : ℕ} → Entered layout sizes (l .words) w′ (s .front) v x B r → {s′ : State} (a : ℕ)
@@ -134,7 +134,7 @@ module _ {layout : Layout} {sizes : List ℕ} {X : Setting layout sizes} {before
   fresh-stands e {w′} {r} E {s′} a f c q t =
       let on = fresh e in
       let st = start-fresh on in
-      label-stands X T (L .inv) (L .labelling) (L .late) (boundsOf n (l .words)) (bound-word T) (rw st (E .placed)) a
+      label-stands X T (L .inv) (L .labelling) (L .late) (boundsOf n (l .words)) (T .bounds) (rw st (E .placed)) a
       (record {
         front = f;
         current = c ∙ ap (λ (k : ℕ). s .current + k) (E .counted ∙ (rw st));
@@ -160,7 +160,7 @@ module _ {layout : Layout} {sizes : List ℕ} {X : Setting layout sizes} {before
         fits = f;
         whole = λ t. X .agrees .segment b u (keyOf h v) ∙ number-whole B K sizes b u (keyOf h v) t;
         word = held-word on;
-        below = rw (bound-word T b (f .first) (f .last))
+        below = rw (T .bounds b (f .first) (f .last))
             (omega (arith, less, key-end (X .lawful) (L .inv .bounds) fit (omega (arith, L .late)), X .agrees .end b u (segmentOf sh h v)));
       }
 
@@ -172,7 +172,7 @@ module _ {layout : Layout} {sizes : List ℕ} {X : Setting layout sizes} {before
       let on = held e in
       let st : searchStart sh (mark (h .search) v) (bucketOf h v) ≡ placeBucket place = start-held on ∙ sym (held-bucket e) in
       let P : Placed n (layout .slots) K (l .words) (l .words) v place = placed-same (T .frontier) v in
-      label-stands X T (L .inv) (L .labelling) (L .late) (boundsOf n (l .words)) (bound-word T) (rw (st, stays) P) a
+      label-stands X T (L .inv) (L .labelling) (L .late) (boundsOf n (l .words)) (T .bounds) (rw (st, stays) P) a
       (record {
         front = f;
         current = omega (arith, c, ap (isWord 1) (ap (keyWord B K sizes (boundsOf n (l .words)) (s .front) x) st ∙ stays), isWord-other 1 place (λ z. omega (arith, held-far e)));
@@ -183,7 +183,7 @@ module _ {layout : Layout} {sizes : List ℕ} {X : Setting layout sizes} {before
   -- A labelled node, when it has left its slot.
   module _ (e : place ≢ 0) {w₁ : List ℕ} (P : Placed n (layout .slots) K (l .words) w₁ v 0) {start : ℕ} (from : start ≡ placeBucket place) where
     read : (i : ℕ) → 1 ≤ i → i ≤ B → bound (boundsOf n w₁) i ≡ bound (h .bounds) i
-    read i low high = getD-drop (4 * n) w₁ i 0 ∙ P .bounds i (omega (arith, X .agrees .sized .few)) ∙ T .bounds i low high
+    read i low high = P .bounds i (omega (arith, X .agrees .sized .few)) ∙ T .bounds i low high
 
     same-start : searchStart sh (mark (h .search) v) (bucketOf h v) ≡ start
     same-start = start-held (held e) ∙ sym (held-bucket e) ∙ sym from

@@ -24,7 +24,6 @@ use Rattle.state.specs.declared.State.{State}
 use Rattle.state.specs.Stands.{Setting, Lists, Stands}
 use Rattle.state.specs.Tallies.{looks, afterEvent}
 use Rattle.state.proofs.Tallies.{same-tally}
-use Rattle.state.proofs.Label.{bound-word}
 use Rattle.state.proofs.Find.{sum-some, counted-word, word-current, current-least, current-fits}
 use Rattle.state.proofs.Remove.{current-stands}
 use Rattle.placing.specs.Placing.{lists}
@@ -87,7 +86,7 @@ module _ {layout : Layout} {sizes : List ℕ} {X : Setting layout sizes} {before
   first-bound = bound (boundsOf n (l .words)) 1
 
   bound-is : first-bound ≡ bound (h .bounds) 1
-  bound-is = bound-word (R .stands) 1 (omega arith) (omega (arith, X .agrees .sized .two))
+  bound-is = R .stands .bounds 1 (omega arith) (omega (arith, X .agrees .sized .two))
 
   abbrev number : ℕ
   number = segmentNumber (layout .buckets) (layout .segments) sizes 1 first-bound (s .front)

@@ -5,7 +5,6 @@ use mathlib.Core.Path.{_≡_, refl, sym, _∙_, ap, subst}
 use mathlib.Core.Logic.{_≢_, _⊎_, ⊎-elim}
 use mathlib.Core.List.{List}
 use lib.ListN.{length, getD, set}
-use lib.Seq.{getD-drop}
 use Rattle.theory.specs.Heap.{Heap, bound, keyOf, boundsAfter, heapRemove}
 use Rattle.theory.proofs.Sums.{sum-at, sum-zero}
 use Rattle.theory.specs.Invariants.{Least, Fits, seg}
@@ -117,7 +116,7 @@ module _ {layout : Layout} {sizes : List ℕ} {X : Setting layout sizes} {before
     -- v has left its slot.
     module _ {w₁ : List ℕ} (P : Placed n (layout .slots) K (l .words) w₁ v 2) where
       bound-same : (i : ℕ) → 1 ≤ i → i ≤ B → bound (boundsOf n w₁) i ≡ bound (h .bounds) i
-      bound-same i lo hi = getD-drop (4 * n) w₁ i 0 ∙ P .bounds i (omega (arith, X .agrees .sized .few)) ∙ R .stands .bounds i lo hi
+      bound-same i lo hi = P .bounds i (omega (arith, X .agrees .sized .few)) ∙ R .stands .bounds i lo hi
 
       end-is : segmentEnd B K sizes j (bound (boundsOf n w₁) j) k ≡ segmentEnd B K sizes j (bound (h .bounds) j) k
       end-is = ap (λ (u : ℕ). segmentEnd B K sizes j u k) (bound-same j (b .low) (b .high))
@@ -222,8 +221,8 @@ module _ {layout : Layout} {sizes : List ℕ} {X : Setting layout sizes} {before
           here-is : getD (places n w₃) v 0 ≡ 2
           here-is = D .kept v low (λ z. omega (arith, word-far K j k, here, z)) ∙ here
 
-          bounds-left : (i : ℕ) → 1 ≤ i → i ≤ B → getD w₃ (4 * n + i) 0 ≡ bound after i
-          bounds-left i lo hi = D .bounds i (omega (arith, X .agrees .sized .few)) ∙ sym (getD-drop (4 * n) w₂ i 0) ∙ bounds-are i lo hi
+          bounds-left : (i : ℕ) → 1 ≤ i → i ≤ B → bound (boundsOf n w₃) i ≡ bound after i
+          bounds-left i lo hi = D .bounds i (omega (arith, X .agrees .sized .few)) ∙ bounds-are i lo hi
 
           shifted : h′ .shifts ≡ h .shifts + shiftsOf j (inSlot layout w₂ slot)
           shifted = listed-shifts X (R .stands) (R .resting .rest) (R .resting .inv) (R .long) none-current (g .slot) (b .lower) (g .earlier) found

@@ -5,7 +5,6 @@ use mathlib.Core.Path.{_≡_, refl, sym, _∙_, ap, subst}
 use mathlib.Core.Logic.{_⊎_, inl, inr}
 use mathlib.Core.List.{List}
 use lib.ListN.{length, getD, replicate, length-replicate}
-use lib.Seq.{getD-drop}
 use Rattle.theory.specs.Maps.{none}
 use Rattle.theory.specs.Network.{Network}
 use Rattle.theory.specs.Shape.{Shape}
@@ -16,7 +15,7 @@ use Rattle.theory.proofs.Sums.{sum-zero}
 use Rattle.theory.proofs.Search.Ends.{blank-mark}
 use Rattle.theory.specs.Invariants.{Labelling}
 use Rattle.theory.proofs.Heap.Run.{blank-inv, source-labelling}
-use Rattle.bounds.specs.Words.{firstWords}
+use Rattle.bounds.specs.Words.{boundsOf, firstWords}
 use Rattle.bounds.proofs.First.{first-words-length, first-words-before, first-words-after}
 use Rattle.bounds.proofs.Agreement.{first-words-agree}
 use Rattle.buckets.specs.Words.{places}
@@ -76,8 +75,8 @@ module _ {layout : Layout} {sizes : List ℕ} {X : Setting layout sizes} {words 
     blank-place : (v : ℕ) → getD (places n w) v 0 ≡ 0
     blank-place v = ap (λ (l : List ℕ). getD l v 0) (first-frontier .1 ∙ zero-frontier .1) ∙ getD-replicate-same n v 0
 
-    first-bound : (i : ℕ) → 1 ≤ i → i ≤ B → getD w (4 * n + i) 0 ≡ bound (firstBounds sh) i
-    first-bound i low high = rw (first, ← (S .top-is)) (sym (getD-drop (4 * n) _ i 0) ∙ first-words-agree (X .agrees) n zeros in-zeros i low high)
+    first-bound : (i : ℕ) → 1 ≤ i → i ≤ B → bound (boundsOf n w) i ≡ bound (firstBounds sh) i
+    first-bound i low high = rw (first, ← (S .top-is)) (first-words-agree (X .agrees) n zeros in-zeros i low high)
 
     blank-stands : (before : List ℕ) → Stands layout sh before (heapBlank N sh) (lists w d p before) blankState
     unfolding heapBlank blank

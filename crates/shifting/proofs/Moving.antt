@@ -1,5 +1,5 @@
 -- A node of the segment that is used is moved; and all of them, one after the other.
-use Prim.Native.Nat.{ℕ, suc, _+_, _*_, _≤_, _<_}
+use Prim.Native.Nat.{ℕ, suc, _+_, _≤_, _<_}
 use native.Mathlib.Omega.{arith}
 use mathlib.Core.Path.{_≡_, refl, sym, _∙_, ap, subst}
 use mathlib.Core.Bool.{Bool, true, false, cond}
@@ -7,7 +7,6 @@ use mathlib.Core.Logic.{_≢_, _⊎_, inl, inr, ⊎-elim}
 use mathlib.Core.List.{List}
 use lib.Dec.{ltb}
 use lib.ListN.{length, getD}
-use lib.Seq.{getD-drop}
 use Rattle.theory.specs.Sums.{sumBelow}
 use Rattle.theory.specs.Heap.{bound}
 use Rattle.theory.proofs.Cases.{same?}
@@ -51,7 +50,7 @@ pub record Moved (layout : Layout) (sizes words words′ distances : List ℕ) (
 
 -- The bounds are as they were after a change of a place word.
 pub bounds-same : {n slots K B : ℕ} {w w′ : List ℕ} {v x : ℕ} → B ≤ 22 → Placed n slots K w w′ v x → (i : ℕ) → 1 ≤ i → i ≤ B → bound (boundsOf n w) i ≡ bound (boundsOf n w′) i
-bounds-same {n} {w = w} {w′ = w′} few P i low high = getD-drop (4 * n) w i 0 ∙ sym (P .bounds i (omega arith)) ∙ sym (getD-drop (4 * n) w′ i 0)
+bounds-same few P i low high = sym (P .bounds i (omega arith))
 
 module _ {layout : Layout} {sizes words distances : List ℕ} {s : State} {bucket v : ℕ} (M : Moves layout sizes words distances s bucket v) {w₁ : List ℕ}
     (P : Placed (layout .nodes) (layout .slots) (layout .segments) words w₁ v 0) where
@@ -93,7 +92,7 @@ pub record Distributing (layout : Layout) (sizes words₀ distances : List ℕ) 
   pub frontier : Frontier (layout .nodes) (layout .slots) (layout .segments) words
   pub each : (w : ℕ) → w < layout .nodes → (getD (places (layout .nodes) words) w 0 ≡ getD (places (layout .nodes) words₀) w 0)
       ⊎ ((getD (places (layout .nodes) words₀) w 0 ≡ placeWord (layout .segments) slot) × (getD (places (layout .nodes) words) w 0 ≡ movedWord layout sizes words₀ distances (s₀ .front) bucket w))
-  pub bounds : (i : ℕ) → i < 24 → getD words (4 * layout .nodes + i) 0 ≡ getD words₀ (4 * layout .nodes + i) 0
+  pub bounds : (i : ℕ) → i < 24 → bound (boundsOf (layout .nodes) words) i ≡ bound (boundsOf (layout .nodes) words₀) i
   pub same-length : length words ≡ length words₀
   pub front : s .front ≡ s₀ .front
   pub current : s .current ≡ atCurrent layout words
@@ -145,7 +144,7 @@ module _ {layout : Layout} {sizes words₀ distances : List ℕ} {s₀ : State} 
     first-word w l e = ⊎-elim (λ q. sym q ∙ e) (λ q. q .0) (P .each w l)
 
     bounds-from : (i : ℕ) → 1 ≤ i → i ≤ layout .buckets → bound (boundsOf n words₀) i ≡ bound (boundsOf n words) i
-    bounds-from i low high = getD-drop (4 * n) words₀ i 0 ∙ sym (P .bounds i (omega (arith, Q .formed .sized .few))) ∙ sym (getD-drop (4 * n) words i 0)
+    bounds-from i low high = sym (P .bounds i (omega (arith, Q .formed .sized .few)))
 
     same-moved : (w : ℕ) → w < n → place w ≡ from → movedWord layout sizes words₀ distances (s₀ .front) bucket w ≡ movedWord layout sizes words distances (s .front) bucket w
     same-moved w l e = same-word (Q .enters w l (first-word w l e)) (boundsOf n words) bounds-from

@@ -1,5 +1,5 @@
 -- The nodes of the segment that is used, and where they go.
-use Prim.Native.Nat.{ℕ, _+_, _*_, _≤_, _<_}
+use Prim.Native.Nat.{ℕ, _+_, _≤_, _<_}
 use mathlib.Core.Path.{_≡_}
 use mathlib.Core.Logic.{_≢_}
 use mathlib.Core.Bool.{cond}
@@ -7,6 +7,7 @@ use mathlib.Core.List.{List}
 use lib.Dec.{ltb}
 use lib.ListN.{length, getD}
 use Rattle.theory.specs.Sums.{sumBelow}
+use Rattle.theory.specs.Heap.{bound}
 use Rattle.bounds.specs.Words.{boundsOf}
 use Rattle.buckets.specs.Words.{places, placeWord, slotBucket}
 use Rattle.frontier.specs.Frontier.{Frontier}
@@ -71,7 +72,7 @@ pub record Distributed (layout : Layout) (sizes words words′ distances : List 
       → getD (places (layout .nodes) words′) w 0 ≡ movedWord layout sizes words distances (s .front) bucket w
   pub kept : (w : ℕ) → w < layout .nodes → getD (places (layout .nodes) words) w 0 ≢ placeWord (layout .segments) slot
       → getD (places (layout .nodes) words′) w 0 ≡ getD (places (layout .nodes) words) w 0
-  pub bounds : (i : ℕ) → i < 24 → getD words′ (4 * layout .nodes + i) 0 ≡ getD words (4 * layout .nodes + i) 0
+  pub bounds : (i : ℕ) → i < 24 → bound (boundsOf (layout .nodes) words′) i ≡ bound (boundsOf (layout .nodes) words) i
   pub same-length : length words′ ≡ length words
   pub front : s′ .front ≡ s .front
   pub current : s′ .current ≡ atCurrent layout words′

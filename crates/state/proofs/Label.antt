@@ -1,5 +1,5 @@
 -- An insertion or a decrease in the words is the step's.
-use Prim.Native.Nat.{ℕ, _+_, _*_, _≤_, _<_}
+use Prim.Native.Nat.{ℕ, _+_, _≤_, _<_}
 use native.Mathlib.Omega.{arith}
 use mathlib.Core.Path.{_≡_, refl, sym, _∙_, ap}
 use mathlib.Core.Bool.{true, cond}
@@ -7,7 +7,7 @@ use mathlib.Core.Logic.{_≢_, ⊎-elim}
 use mathlib.Core.List.{List}
 use lib.Dec.{eqb}
 use lib.ListN.{length, getD, set}
-use lib.Seq.{getD-drop, getD-set-same, getD-set-other}
+use lib.Seq.{getD-set-same, getD-set-other}
 use borrow.Author.Tests.{ne-eqb, ltb-true}
 use Rattle.theory.specs.Shape.{Shape}
 use Rattle.theory.specs.Search.{Mark, unlabelled, labelled, scanned, mark, below, label}
@@ -16,7 +16,7 @@ use Rattle.theory.proofs.Cases.{same?}
 use Rattle.theory.proofs.Sums.{sum-change}
 use Rattle.theory.specs.Invariants.{HeapInv, Labelling}
 use Rattle.theory.proofs.Heap.Label.{put}
-use Rattle.bounds.specs.Words.{boundsOf, segmentNumber}
+use Rattle.bounds.specs.Words.{segmentNumber}
 use Rattle.bounds.proofs.Bucket.{bucketFrom-same}
 use Rattle.buckets.specs.Words
 use Rattle.buckets.specs.Words.Laws.{places-length}
@@ -29,11 +29,6 @@ use Rattle.state.specs.Stands.{Setting, Lists, Stands}
 use Rattle.state.specs.Tallies.{afterLabel}
 use Rattle.state.proofs.Places.Label.{place-is, label-here, label-other}
 use Rattle.state.proofs.Slots.{word-far, key-fits}
-
--- A bound as it stands in the words.
-pub bound-word : {layout : Layout} {shape : Shape} {before : List ℕ} {h : Heap} {l : Lists} {s : State} → Stands layout shape before h l s
-    → (i : ℕ) → 1 ≤ i → i ≤ layout .buckets → bound (boundsOf (layout .nodes) (l .words)) i ≡ bound (h .bounds) i
-bound-word {layout} {l = l} T i low high = getD-drop (4 * layout .nodes) (l .words) i 0 ∙ T .bounds i low high
 
 -- Which numbers change: the labelled nodes at the current key, and the tallies.
 pub record Counting (m : Mark) (word : ℕ) (s s′ : State) : Type 0 where

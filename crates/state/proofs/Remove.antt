@@ -1,5 +1,5 @@
 -- A removal in the words is the step's: of a node at the current key, and of the least node of the lowest slot.
-use Prim.Native.Nat.{ℕ, suc, _+_, _-_, _*_, _≤_, _<_}
+use Prim.Native.Nat.{ℕ, suc, _+_, _-_, _≤_, _<_}
 use native.Mathlib.Omega.{arith}
 use mathlib.Core.Path.{_≡_, refl, sym, _∙_, ap}
 use mathlib.Core.Bool.{cond}
@@ -37,7 +37,6 @@ use Rattle.state.proofs.Tallies.{same-tally, same-insertions, same-decr
 use Rattle.state.proofs.Places.Label.{place-is}
 use Rattle.state.proofs.Places.Remove.{removed-scanned, removed-unlabelled, removed-poured, removed-other, removed-current, first-equal, shifts-first, shifts-sum, poured}
 use Rattle.state.proofs.Slots.{word-far, same-slot, key-fits}
-use Rattle.state.proofs.Label.{bound-word}
 use Rattle.state.proofs.Find.{current-least, current-fits, later, listed-word, slot-word, slot-fits, listed-least, listed-fits, listed-segment}
 
 -- One more node on the roster.
@@ -115,7 +114,7 @@ module _ {layout : Layout} {sizes : List ℕ} (X : Setting layout sizes) {before
     looks-is : s .tally .looks + (1 + segmentLooks K (segmentNumber B K sizes 1 (bound (boundsOf n (l .words)) 1) d)) ≡ heapRemove sh 1 k d v h .looks
     unfolding heapRemove
     looks-is =
-        let u = bound-word T 1 (omega arith) (omega (arith, X .agrees .sized .two)) in
+        let u = T .bounds 1 (omega arith) (omega (arith, X .agrees .sized .two)) in
         let a : segmentNumber B K sizes 1 (bound (h .bounds) 1) d ≡ k = sym (X .agrees .segment 1 (bound (h .bounds) 1) d) in
         let b : segmentLooks K k ≡ sh .looks k = sym (X .agrees .looks k) in
         rw (u, a, b, same-looks (T .tally))
@@ -263,7 +262,7 @@ module _ {layout : Layout} {sizes : List ℕ} (X : Setting layout sizes) {before
 
     -- The words after the removal.
     module _ (u : List ℕ) {w′ : List ℕ} (frontier : Frontier n (layout .slots) K w′) (here : getD (Words.places n w′) v 0 ≡ 2)
-        (bounds : (i : ℕ) → 1 ≤ i → i ≤ B → bound u i ≡ bound after i) (same-bounds : (i : ℕ) → 1 ≤ i → i ≤ B → getD w′ (4 * n + i) 0 ≡ bound after i)
+        (bounds : (i : ℕ) → 1 ≤ i → i ≤ B → bound u i ≡ bound after i) (same-bounds : (i : ℕ) → 1 ≤ i → i ≤ B → bound (boundsOf n w′) i ≡ bound after i)
         (moved : (w : ℕ) → w < n → w ≢ v → place w ≡ slotWord K j k → getD (Words.places n w′) w 0 ≡ keyWord B K sizes u key (keyOf h w) j)
         (kept : (w : ℕ) → w < n → w ≢ v → place w ≢ slotWord K j k → getD (Words.places n w′) w 0 ≡ place w) where
       plain-place : (w : ℕ) → w < n → w ≢ v → mark (h .search) w ≢ labelled → place w ≤ 2 → getD (Words.places n w′) w 0 ≡ placeOf (slotWord K) sh key h′ w

@@ -8,7 +8,7 @@ use Rattle.theory.specs.Network.{Network, Admissible}
 use Rattle.theory.specs.Shape.{Shape}
 use Rattle.theory.specs.Heap.{Heap, bound}
 use Rattle.theory.specs.Lawful.{Lawful}
-use Rattle.bounds.specs.Words.{Agrees}
+use Rattle.bounds.specs.Words.{boundsOf, Agrees}
 use Rattle.buckets.specs.Words
 use Rattle.frontier.specs.Frontier.{Frontier}
 use Rattle.state.specs.declared.Layout.{Layout}
@@ -43,7 +43,7 @@ pub record Lists : Type 0 where
 pub record Stands (layout : Layout) (shape : Shape) (before : List ℕ) (h : Heap) (l : Lists) (s : State) : Type 0 where
   pub frontier : Frontier (layout .nodes) (layout .slots) (layout .segments) (l .words)
   pub places : (v : ℕ) → v < layout .nodes → getD (Words.places (layout .nodes) (l .words)) v 0 ≡ placeOf (slotWord (layout .segments)) shape (s .front) h v
-  pub bounds : (i : ℕ) → 1 ≤ i → i ≤ layout .buckets → getD (l .words) (4 * layout .nodes + i) 0 ≡ bound (h .bounds) i
+  pub bounds : (i : ℕ) → 1 ≤ i → i ≤ layout .buckets → bound (boundsOf (layout .nodes) (l .words)) i ≡ bound (h .bounds) i
   pub distances : l .distances ≡ h .search .distances
   pub parents : l .parents ≡ h .search .parents
   pub roster : l .roster ≡ h .search .roster ++ drop (length (h .search .roster)) before

@@ -5,7 +5,7 @@ use mathlib.Core.Path.{_≡_, refl, sym, _∙_, ap}
 use mathlib.Core.Logic.{_⊎_, inl, inr, _≢_}
 use mathlib.Core.List.{List}
 use lib.ListN.{length, getD, set, replicate, getD-replicate, length-set}
-use lib.Seq.{getD-set-same, getD-set-other, set-set}
+use lib.Seq.{getD-set-same, getD-set-other, getD-drop, set-set}
 use native.Mathlib.Decide.{ℕ-discrete}
 use Rattle.bits.specs.Sets.{bitWords, summaryWords, In, Inhabited, BitSet, Room, Outside, Alike, Kept, Changed, Inserted, Taken}
 use Rattle.bits.specs.Sets.Laws.{zero-set, zero-none, alike-sym, alike-in, alike-set, alike-store}
@@ -59,7 +59,7 @@ module _ {n slots segments : ℕ} {w : List ℕ} (F : Frontier n slots segments 
         };
         place = m .place;
         same-length = m .kept .same-length;
-        bounds = λ i h. m .kept .same (4 * n + i) (inl (omega arith));
+        bounds = λ i h. simp getD-drop (m .kept .same (4 * n + i) (inl (omega arith)));
       }
     where
       was : (u : ℕ) → u < n → getD (places n w′) u 0 ≡ 1 → Dec (u ≡ v) → getD (places n w) u 0 ≡ 1
@@ -95,8 +95,8 @@ module _ {n slots segments : ℕ} {w : List ℕ} (F : Frontier n slots segments 
       };
       place = marked .place ∙ ap (λ (l : List ℕ). set l v x) (between .1);
       same-length = length-set w₁ (2 * n + v) x ∙ C .kept .same-length;
-      bounds = λ i h. getD-set-other w₁ (2 * n + v) (4 * n + i) x 0 (omega arith)
-          ∙ C .kept .outside (4 * n + i) (inr (omega (arith, bits-few n (F .some))), inl (omega arith));
+      bounds = λ i h. simp getD-drop (getD-set-other w₁ (2 * n + v) (4 * n + i) x 0 (omega arith)
+          ∙ C .kept .outside (4 * n + i) (inr (omega (arith, bits-few n (F .some))), inl (omega arith)));
     }
       where
         in-bits : (u : ℕ) → u < n → getD (places n (set w₁ (2 * n + v) x)) u 0 ≡ 1 → Dec (u ≡ v) → In 32 n (3 * n) w₁ u
