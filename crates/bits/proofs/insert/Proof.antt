@@ -8,21 +8,21 @@ use Rattle.bits.proofs.insert.Tie as tie
 
 add-words : tie.Need-add-words
 add-words c =
-    let s = c .before .before in record { fits = insert-turned (s .pre .0) (s .args .v .0) (omega arith) (s .pre .1 .1) .fits }
+    let s : tie.Start = search needs in record { fits = insert-turned (s .pre .0) (s .args .v .0) (omega arith) (s .pre .1 .1) .fits }
 
 add-words-4 : tie.Need-add-words-4
 add-words-4 c =
-    let s = c .before .before .before .before in
+    let s : tie.Start = search needs in
     record { fits = insert-told (s .pre .0) (s .args .v .0) (omega arith) (s .pre .1 .1) (omega arith) .fits }
 
 returns : tie.Need-returns
 returns c =
-    let s = c .before .before .before .before in
+    let s : tie.Start = search needs in
     insert-first (s .pre .0) (s .args .v .0) (omega arith) (s .pre .1 .1) (omega arith)
 
 returns-2 : tie.Need-returns-2
 returns-2 c =
-    let s = c .before .before .before in insert-more (s .pre .0) (s .args .v .0) (omega arith) (s .pre .1 .1) (omega arith)
+    let s : tie.Start = search needs in insert-more (s .pre .0) (s .args .v .0) (omega arith) (s .pre .1 .1) (omega arith)
 
 pub insert-spec : {M : Type 1} → statement M
 insert-spec =

@@ -7,19 +7,19 @@ use Rattle.bits.proofs.remove.Statement.{statement}
 use Rattle.bits.proofs.remove.Tie as tie
 
 sub-left : tie.Need-sub-left
-sub-left c = let s = c .before in remove-le (s .pre .0) (s .args .node) (s .pre .1 .below) (s .pre .1)
+sub-left c = let s : tie.Start = search needs in remove-le (s .pre .0) (s .args .node) (s .pre .1 .below) (s .pre .1)
 
 sub-words : tie.Need-sub-words
-sub-words c = let s = c .before .before .before in remove-told-le (s .pre .0) (s .args .node) (s .pre .1 .below) (s .pre .1)
+sub-words c = let s : tie.Start = search needs in remove-told-le (s .pre .0) (s .args .node) (s .pre .1 .below) (s .pre .1)
 
 returns : tie.Need-returns
 returns c =
-    let s = c .before .before .before in
+    let s : tie.Start = search needs in
     remove-last (s .pre .0) (s .args .node) (s .pre .1 .below) (s .pre .1) (omega arith)
 
 returns-2 : tie.Need-returns-2
 returns-2 c =
-    let s = c .before .before in remove-more (s .pre .0) (s .args .node) (s .pre .1 .below) (s .pre .1) (omega arith)
+    let s : tie.Start = search needs in remove-more (s .pre .0) (s .args .node) (s .pre .1 .below) (s .pre .1) (omega arith)
 
 pub remove-spec : {M : Type 1} → statement M
 remove-spec =

@@ -7,6 +7,7 @@ use lib.Count.{trailingZeros}
 use borrow.Author.Count.{below-more}
 use Rattle.bits.specs.Sets.{bitWords, summaryWords, Smallest}
 use Rattle.bits.specs.Sets.Find.{summary-goes-on, word-some, smallest-at}
+use borrow.Author.Needs.{needs}
 use Rattle.bits.proofs.smallest.Statement.{statement}
 use Rattle.bits.proofs.smallest.Tie as tie
 
@@ -46,13 +47,13 @@ smallest-spec =
     (λ c. omega (arith, inside c))
     (λ c. omega (arith, inside c))
     (λ c. omega (arith, inside (c .before)))
-    (λ c. omega (arith, inside (c .before .before)))
-    (λ c. omega (arith, inside (c .before .before)))
+    (λ c. let l : tie.At-loop Inv-loop μ-loop = search needs in omega (arith, inside l))
+    (λ c. let l : tie.At-loop Inv-loop μ-loop = search needs in omega (arith, inside l))
     (λ c. below-more _ _ (c .before .before .loop .inv) (c .if1 .taken))
-    (λ c. omega (arith, inside (c .before .before)))
-    (λ c. omega (arith, inside (c .before .before)))
-    (λ c. omega (arith, inside (c .before .before)))
-    (λ c. omega (arith, inside (c .before .before .before)))
+    (λ c. let l : tie.At-loop Inv-loop μ-loop = search needs in omega (arith, inside l))
+    (λ c. let l : tie.At-loop Inv-loop μ-loop = search needs in omega (arith, inside l))
+    (λ c. let l : tie.At-loop Inv-loop μ-loop = search needs in omega (arith, inside l))
+    (λ c. let l : tie.At-loop Inv-loop μ-loop = search needs in omega (arith, inside l))
     (λ c. omega (arith, word-below (c .before)))
     (λ c. omega (arith, word-below (c .before)))
     (λ c. omega (arith, word-below (c .before)))

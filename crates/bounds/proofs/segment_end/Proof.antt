@@ -12,7 +12,7 @@ use Rattle.bounds.proofs.segment_end.Tie as tie
 
 module _ (c : tie.Then1) where
   abbrev start : tie.Start
-  start = c .before .before .before
+  start = search needs
 
   inside : segmented (start .args .buckets) (start .args .segments) (start .args .bucket) ≡ true
   inside = sym (c .before .is-segmented .ensures) ∙ c .if1 .taken

@@ -22,10 +22,18 @@ Inv-loop words₀ n sizes end before from to offset₀ i₀ words offset i =
 abbrev μ-loop : tie.MeasureT-loop
 μ-loop words₀ n sizes end before from to offset₀ i₀ words offset i = to - i
 
+-- The places that the answers name: the start, the loop, and the bound of a turn.
+abbrev start : tie.At-loop Inv-loop μ-loop → tie.Start Inv-loop μ-loop
+start c = search needs
+
+abbrev loop-of : tie.After-raised Inv-loop μ-loop → tie.At-loop Inv-loop μ-loop
+loop-of c = search needs
+
 -- At first nothing is added.
 loop-holds : tie.Need-loop-holds Inv-loop μ-loop
 loop-holds c =
-    let e : min (c .before .before .args .before + 0) (c .before .before .args .end) ≡ c .before .before .args .before = omega arith in
+    let s : tie.Start Inv-loop μ-loop = search needs in
+    let e : min (s .args .before + 0) (s .args .end) ≡ s .args .before = omega arith in
     (omega arith, refl, refl, rw e)
 
 cast-offset : tie.Need-cast-offset Inv-loop μ-loop
@@ -36,8 +44,8 @@ add-offset c = omega (arith, c .shared-slice-known2 .given (c .before .before .l
 
 loop-again : tie.Need-loop-again Inv-loop μ-loop
 loop-again c =
-    let l = c .before .before .before in
-    let a = l .before .before .before .args in
+    let l = loop-of c in
+    let a = start l .args in
     let x = sizeOf (a .sizes .now) (l .loop .i) in
     let e : min (a .before + (l .loop .offset + x)) (a .end) ≡ min (min (a .before + l .loop .offset) (a .end) + x) (a .end) = omega arith in
     let turn = rebound-turn (sizeOf (a .sizes .now)) (a .end) (min (a .before + l .loop .offset) (a .end)) (l .loop .i) (a .to) (4 * a .n) (l .loop .words) (omega arith) in (
@@ -51,7 +59,7 @@ returns : tie.Need-returns Inv-loop μ-loop
 unfolding rebound reboundWords
 returns c =
     let l = c .before in
-    let a = l .before .before .before .args in
+    let a = start l .args in
     let none : a .to - l .loop .i ≡ 0 = omega arith in
     sym (take-append-drop (4 * a .n) (l .loop .words)) ∙ ap₂ _++_ (l .loop .inv .2) (rw none at (l .loop .inv .3))
 

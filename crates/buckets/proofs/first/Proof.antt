@@ -7,12 +7,12 @@ use Rattle.buckets.proofs.first.Tie as tie
 
 returns : tie.Need-returns
 returns c =
-    let d = c .before .before in
+    let d : tie.Start = search needs in
     first-none (d .pre .0) (d .args .slot) (d .pre .1) (omega arith)
 
 returns-2 : tie.Need-returns-2
 returns-2 c =
-    let d = c .before .before in
+    let d : tie.Start = search needs in
     first-some (d .pre .0) (d .args .slot) (d .pre .1) _ (omega arith)
 
 pub first-spec : {M : Type 1} → statement M

@@ -31,7 +31,7 @@ shared-slice-read-result c = omega (arith, low (c .before))
 
 returns : tie.Need-returns
 returns c =
-    let d = c .before .before in
+    let d : tie.Start = search needs in
     empty-count (d .pre .0) (d .args .bucket) (d .pre .1 .0) (d .pre .1 .1) _ (omega arith) (c .before .if1 .taken)
 
 add-result-5 : tie.Need-add-result-5
@@ -45,7 +45,7 @@ shared-slice-read-result-2 c = omega (arith, only (c .before))
 
 returns-2 : tie.Need-returns-2
 returns-2 c =
-    let d = c .before .before in
+    let d : tie.Start = search needs in
     empty-head (d .pre .0) (d .args .bucket) (d .pre .1 .0) (d .pre .1 .1) (one (c .before)) _ (omega arith)
 
 pub is-empty-spec : {M : Type 1} → statement M

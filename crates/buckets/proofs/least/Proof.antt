@@ -21,21 +21,20 @@ first-some d =
     walk-nonempty (d .pre .0) (d .args .slot) (d .pre .1 .0 .0) (d .args .keys .now) (d .pre .1 .1)
 
 cast-first : tie.Need-cast-first Inv-loop μ-loop
-cast-first c = omega (arith, first-le (c .before .before .before))
+cast-first c = let d : tie.Start Inv-loop μ-loop = search needs in omega (arith, first-le d)
 
 sub-best : tie.Need-sub-best Inv-loop μ-loop
-sub-best c = first-some (c .before .before .before)
+sub-best c = let d : tie.Start Inv-loop μ-loop = search needs in first-some d
 
 mul-at : tie.Need-mul-at Inv-loop μ-loop
-mul-at c = omega (arith, first-le (c .before .before .before))
+mul-at c = let d : tie.Start Inv-loop μ-loop = search needs in omega (arith, first-le d)
 
 shared-slice-read-at : tie.Need-shared-slice-read-at Inv-loop μ-loop
-shared-slice-read-at c =
-    omega (arith, first-le (c .before .before .before .before), first-some (c .before .before .before .before))
+shared-slice-read-at c = let d : tie.Start Inv-loop μ-loop = search needs in omega (arith, first-le d, first-some d)
 
 loop-holds : tie.Need-loop-holds Inv-loop μ-loop
 loop-holds c =
-    let d = c .before .before .before .before in
+    let d : tie.Start Inv-loop μ-loop = search needs in
     walk-start (d .pre .0) (d .args .slot) (d .pre .1 .0 .0) (d .args .keys .now) (d .pre .1 .1)
 
 cast-u : tie.Need-cast-u Inv-loop μ-loop
@@ -45,18 +44,23 @@ earlier-requires : tie.Need-earlier-requires Inv-loop μ-loop
 earlier-requires c κs = omega (arith, walk-below (c .before .loop .inv), c .before .loop .inv .in-slot .0)
 
 mul-at-2 : tie.Need-mul-at-2 Inv-loop μ-loop
-mul-at-2 c = omega (arith, walk-below (c .before .before .loop .inv))
+mul-at-2 c = let l : tie.At-loop Inv-loop μ-loop = search needs in omega (arith, walk-below (l .loop .inv))
 
 shared-slice-read-at-2 : tie.Need-shared-slice-read-at-2 Inv-loop μ-loop
-shared-slice-read-at-2 c = omega (arith, walk-below (c .before .before .before .loop .inv))
+shared-slice-read-at-2 c = let l : tie.At-loop Inv-loop μ-loop = search needs in omega (arith, walk-below (l .loop .inv))
+
+abbrev inside : tie.After-earlier Inv-loop μ-loop → tie.In-loop Inv-loop μ-loop
+inside c = search needs
 
 loop-less : tie.Need-loop-less Inv-loop μ-loop
 loop-less c =
-    walk-next (c .before .before .before .loop .inv) (c .before .before .loop-test .taken) (c .before .earlier .result) (c .before .earlier .ensures) .1
+    let e : tie.After-earlier Inv-loop μ-loop = search needs in
+    walk-next (inside e .before .loop .inv) (inside e .loop-test .taken) (e .earlier .result) (e .earlier .ensures) .1
 
 loop-again : tie.Need-loop-again Inv-loop μ-loop
 loop-again c =
-    walk-next (c .before .before .before .loop .inv) (c .before .before .loop-test .taken) (c .before .earlier .result) (c .before .earlier .ensures) .0
+    let e : tie.After-earlier Inv-loop μ-loop = search needs in
+    walk-next (inside e .before .loop .inv) (inside e .loop-test .taken) (e .earlier .result) (e .earlier .ensures) .0
 
 cast-t16 : tie.Need-cast-t16 Inv-loop μ-loop
 cast-t16 c = omega (arith, c .before .loop .inv .in-slot .0)

@@ -34,12 +34,12 @@ slice-write-words c = omega (arith, low (c .before))
 
 returns : tie.Need-returns
 returns c =
-    let d = c .before .before in
+    let d : tie.Start = search needs in
     set-recount (d .args .n) (d .args .slots) (d .args .segments) (d .args .bucket) _ (d .args .words .now) _ (omega arith) (c .before .if1 .taken)
 
 returns-2 : tie.Need-returns-2
 returns-2 c =
-    let d = c .before in
+    let d : tie.Start = search needs in
     none-recount (d .args .n) (d .args .slots) (d .args .segments) (d .args .bucket) _ (d .args .words .now) (c .if1 .left)
 
 pub count-in-spec : {M : Type 1} → statement M

@@ -30,7 +30,7 @@ slice-read-words c = omega (arith, low (c .before))
 
 sub-words : tie.Need-sub-words
 sub-words c =
-    let d = c .before .before in
+    let d : tie.Start = search needs in
     let e : 0 < getD (d .args .words .now) (countAt (d .args .n) (d .args .slots) (d .args .bucket)) 0 =
     rw (d .pre .1 .0 .1) (count-some (d .pre .0) (d .args .v) (d .pre .1 .0 .0) (d .pre .1 .1) (c .before .if1 .taken)) in
     omega arith
@@ -40,12 +40,12 @@ slice-write-words c = omega (arith, low (c .before))
 
 returns : tie.Need-returns
 returns c =
-    let d = c .before .before in
+    let d : tie.Start = search needs in
     set-recount (d .args .n) (d .args .slots) (d .args .segments) _ _ (d .args .words .now) _ (omega arith) (c .before .if1 .taken)
 
 returns-2 : tie.Need-returns-2
 returns-2 c =
-    let d = c .before in
+    let d : tie.Start = search needs in
     none-recount (d .args .n) (d .args .slots) (d .args .segments) _ _ (d .args .words .now) (c .if1 .left)
 
 pub count-out-spec : {M : Type 1} → statement M

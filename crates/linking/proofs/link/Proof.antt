@@ -21,22 +21,22 @@ target : (d : tie.Start) → nodeOr (getD (d .args .words .now) (4 * d .args .n 
 target d = node-or-low _ _ _ (first-le d) (d .pre .1 .1 .0 .0)
 
 add-words : tie.Need-add-words
-add-words c = omega (arith, c .node-or .ensures, target (c .before .before .before))
+add-words c = let d : tie.Start = search needs in omega (arith, c .node-or .ensures, target d)
 
 mul-words : tie.Need-mul-words
-mul-words c = omega (arith, c .node-or .ensures, target (c .before .before .before))
+mul-words c = let d : tie.Start = search needs in omega (arith, c .node-or .ensures, target d)
 
 slice-write-words : tie.Need-slice-write-words
-slice-write-words c = omega (arith, c .node-or .ensures, target (c .before .before .before))
+slice-write-words c = let d : tie.Start = search needs in omega (arith, c .node-or .ensures, target d)
 
 mul-words-2 : tie.Need-mul-words-2
-mul-words-2 c = omega (arith, small (c .before .before .before))
+mul-words-2 c = let d : tie.Start = search needs in omega (arith, small d)
 
 add-words-3 : tie.Need-add-words-3
-add-words-3 c = omega (arith, small (c .before .before .before))
+add-words-3 c = let d : tie.Start = search needs in omega (arith, small d)
 
 cast-words-2 : tie.Need-cast-words-2
-cast-words-2 c = omega (arith, small (c .before .before .before))
+cast-words-2 c = let d : tie.Start = search needs in omega (arith, small d)
 
 slice-write-words-2 : tie.Need-slice-write-words-2
 slice-write-words-2 c = simp length-set (omega arith)
@@ -52,7 +52,7 @@ slice-write-words-5 c = simp length-set (omega arith)
 
 returns : tie.Need-returns
 returns c =
-    let d = c .before .before .before in
+    let d : tie.Start = search needs in
     put-relinked (d .pre .0) (d .pre .1 .0) (d .args .v) (d .args .slot) (d .pre .1 .1 .0 .0) (d .pre .1 .1 .0 .1) _ _ _ _ _ _
     (omega (arith, d .pre .1 .1 .0 .2, c .node-or .ensures)) (d .pre .1 .1 .1)
 

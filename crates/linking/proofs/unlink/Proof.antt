@@ -17,26 +17,26 @@ target d =
     node-or-low _ _ _ (next-le (d .pre .0) (d .pre .1 .0) (d .args .v) (d .pre .1 .1 .0 .0) (d .pre .1 .1 .1)) (d .pre .1 .1 .0 .0)
 
 mul-words-3 : tie.Need-mul-words-3
-mul-words-3 c = omega (arith, low (c .before .before))
+mul-words-3 c = let d : tie.Start = search needs in omega (arith, low d)
 
 slice-write-words-2 : tie.Need-slice-write-words-2
-slice-write-words-2 c = simp length-set (omega (arith, low (c .before .before)))
+slice-write-words-2 c = let d : tie.Start = search needs in simp length-set (omega (arith, low d))
 
 cast-words : tie.Need-cast-words
-cast-words c = omega (arith, low (c .before .before .before))
+cast-words c = let d : tie.Start = search needs in omega (arith, low d)
 
 add-words-2 : tie.Need-add-words-2
-add-words-2 c = omega (arith, c .node-or .ensures, target (c .before .before .before))
+add-words-2 c = let d : tie.Start = search needs in omega (arith, c .node-or .ensures, target d)
 
 mul-words-4 : tie.Need-mul-words-4
-mul-words-4 c = omega (arith, c .node-or .ensures, target (c .before .before .before))
+mul-words-4 c = let d : tie.Start = search needs in omega (arith, c .node-or .ensures, target d)
 
 slice-write-words-3 : tie.Need-slice-write-words-3
-slice-write-words-3 c = simp length-set (omega (arith, c .node-or .ensures, target (c .before .before .before)))
+slice-write-words-3 c = let d : tie.Start = search needs in simp length-set (omega (arith, c .node-or .ensures, target d))
 
 returns : tie.Need-returns
 returns c =
-    let d = c .before .before .before in
+    let d : tie.Start = search needs in
     take-relinked (d .pre .0) (d .pre .1 .0) (d .args .v) (d .pre .1 .1 .0 .0) (d .pre .1 .1 .1) _ _ _ _
     (omega (arith, d .pre .1 .1 .0 .1, c .node-or .ensures)) (d .args .before) (d .pre .1 .1 .0 .1)
 

@@ -23,8 +23,9 @@ abbrev μ-loop : tie.MeasureT-loop
 
 loop-again : tie.Need-loop-again Inv-loop μ-loop
 loop-again c =
-    let powers = c .before .before .row .result in
-    let long : length powers ≡ 21 = ap length (c .before .before .row .ensures) ∙ row-length _ in
+    let r : tie.After-row Inv-loop μ-loop = search needs in
+    let powers = r .row .result in
+    let long : length powers ≡ 21 = ap length (r .row .ensures) ∙ row-length _ in
     let i = c .before .loop .i in (
       omega arith,
       ap₂ (λ (l : List ℕ) (k : ℕ). set l k (getD powers i 0)) (c .before .loop .inv .1) (sym (zero-add i))
@@ -35,10 +36,12 @@ loop-again c =
 returns : tie.Need-returns Inv-loop μ-loop
 unfolding twoLevelSizes
 returns c =
-    let row = powerRow (c .before .before .before .args .segments) in
+    let s : tie.Start Inv-loop μ-loop = search needs in
+    let r : tie.After-row Inv-loop μ-loop = search needs in
+    let row = powerRow (s .args .segments) in
     let i : c .before .loop .i ≡ 21 = omega arith in
-    let all : take 21 row ≡ row = take-all 21 row (omega (arith, row-length (c .before .before .before .args .segments))) in
-    c .before .loop .inv .1 ∙ rw i (ap (λ (l : List ℕ). take 21 l ++ (0 ∷ [])) (c .before .before .row .ensures) ∙ ap (λ (l : List ℕ). l ++ (0 ∷ [])) all)
+    let all : take 21 row ≡ row = take-all 21 row (omega (arith, row-length (s .args .segments))) in
+    c .before .loop .inv .1 ∙ rw i (ap (λ (l : List ℕ). take 21 l ++ (0 ∷ [])) (r .row .ensures) ∙ ap (λ (l : List ℕ). l ++ (0 ∷ [])) all)
 
 pub two-level-sizes-spec : {M : Type 1} → statement M
 two-level-sizes-spec =
