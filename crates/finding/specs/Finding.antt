@@ -4,7 +4,7 @@ use mathlib.Core.Path.{_≡_}
 use mathlib.Core.List.{List}
 use lib.ListN.{getD}
 use Rattle.bounds.specs.Words.{segmentLooks}
-use Rattle.buckets.specs.Words.{places}
+use Rattle.buckets.specs.Words.{places, Held}
 use Rattle.buckets.specs.Answer.{InSlot, InBucket, Some}
 use Rattle.frontier.specs.Frontier.{Frontier}
 use Rattle.state.specs.declared.Layout.{Layout}
@@ -18,7 +18,7 @@ pub record Holds (layout : Layout) (words : List ℕ) : Type 0 where
   pub few : layout .buckets ≤ 22
   pub node : ℕ
   pub below : node < layout .nodes
-  pub held : 512 ≤ getD (places (layout .nodes) words) node 0
+  pub held : Held (getD (places (layout .nodes) words) node 0)
 
 -- Bucket j is the lowest that is not empty (document 01, "One-level heap").
 pub record LowestBucket (layout : Layout) (words : List ℕ) (j : ℕ) : Type 0 where

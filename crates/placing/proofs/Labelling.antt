@@ -1,5 +1,5 @@
 -- What the place word of a node tells when its key falls, and that the words then stand for the step.
-use Prim.Native.Nat.{ℕ, _+_, _*_, _≤_, _<_}
+use Prim.Native.Nat.{ℕ, _+_, _≤_, _<_}
 use native.Mathlib.Omega.{arith}
 use mathlib.Core.Path.{_≡_, refl, sym, _∙_, ap}
 use mathlib.Core.Logic.{_≢_, inl, inr}
@@ -7,18 +7,16 @@ use mathlib.Core.List.{List}
 use lib.ListN.{length, getD, set}
 use lib.Seq.{set-getD}
 use borrow.Author.Tests.{ne-eqb, ltb-true}
-use Rattle.theory.specs.Sums.{sumBelow}
 use Rattle.theory.specs.Shape.{Shape}
 use Rattle.theory.specs.Search.{Mark, unlabelled, labelled, mark, below}
 use Rattle.theory.specs.Heap.{Heap, bound, bucketOf, keyOf, segmentOf, searchStart, heapLabel}
 use Rattle.theory.proofs.Cases.{mark-cases, split}
-use Rattle.theory.proofs.Sums.{sum-mono, sum-ones}
 use Rattle.theory.specs.Lawful.{Lawful}
 use Rattle.theory.specs.Invariants.{Bounds, Fits}
 use Rattle.theory.proofs.Heap.Buckets.{late-range}
 use Rattle.bounds.specs.Words.{boundsOf}
 use Rattle.bounds.proofs.Segments.{number-whole}
-use Rattle.buckets.specs.Words.{places, placeBucket, Held}
+use Rattle.buckets.specs.Words.{places, heads, placeBucket, Held}
 use Rattle.frontier.specs.Frontier.{Frontier, Placed}
 use Rattle.frontier.specs.Frontier.Laws.{placed-again, placed-here}
 use Rattle.state.specs.declared.Layout.{Layout}
@@ -29,7 +27,7 @@ use Rattle.state.specs.Stands.{Setting, Lists, Stands}
 use Rattle.state.specs.Tallies.{insertion, decrease, afterEvent}
 use Rattle.state.proofs.Places.Label.{place-is}
 use Rattle.state.proofs.Slots.{word-far, slot-bucket, slot-below, key-fits}
-use Rattle.state.proofs.Find.{isWord-low, isWord-other}
+use Rattle.state.proofs.Find.{words-few, isWord-low, isWord-other}
 use Rattle.state.proofs.Label.{label-enters, label-stands}
 use Rattle.placing.specs.Placing.{Formed, Entering, Entered, Standing, lists, Labels}
 use Rattle.state.proofs.Tallies.{label-insertion, label-decrease}
@@ -47,10 +45,6 @@ placed-same {n} {w = w} F v = record { frontier = F; place = sym (set-getD (plac
 
 pub formed : {layout : Layout} {sizes : List ℕ} → Setting layout sizes → Formed layout sizes
 formed X = record { sized = X .agrees .sized; slots = X .slots }
-
--- Words are counted once each.
-pub words-few : (n : ℕ) (word : ℕ → ℕ) → sumBelow n (λ w. isWord 1 (word w)) ≤ n
-words-few n word = omega (arith, sum-mono n (λ w. isWord 1 (word w)) (λ w. 1) (λ w _. isWord-low 1 (word w)), sum-ones n)
 
 pub entered-low : {layout : Layout} {sizes words words′ : List ℕ} {front v key start r : ℕ} → Entered layout sizes words words′ front v key start r → r ≤ 1
 entered-low {layout} {sizes} {words} {front = front} {key = key} {start = start} E =
@@ -78,11 +72,11 @@ module _ {layout : Layout} {sizes : List ℕ} {X : Setting layout sizes} {before
   pub distances-long : length (l .distances) ≡ n
   distances-long = ap length (T .distances) ∙ L .labelling .distances ∙ X .nodes
 
-  pub words-long : 4 * n + 32 ≤ length (l .words)
+  pub words-long : heads n ≤ length (l .words)
   words-long = omega (arith, T .frontier .linked .fits .long)
 
   pub current-few : s .current ≤ 4096
-  current-few = omega (arith, T .current, words-few n (λ w. getD (places n (l .words)) w 0), T .frontier .few)
+  current-few = omega (arith, T .current, words-few n 1 (λ w. getD (places n (l .words)) w 0), T .frontier .few)
 
   abbrev pub place : ℕ
   place = getD (places n (l .words)) v 0

@@ -8,7 +8,7 @@ use Rattle.theory.specs.Network.{Link}
 use Rattle.theory.specs.Heap.{Heap, bound}
 use Rattle.theory.specs.Invariants.{HeapInv, Labelling, Relaxing}
 use Rattle.bounds.specs.Words.{boundsOf, segmented, segmentEnd, Sized}
-use Rattle.buckets.specs.Words.{places}
+use Rattle.buckets.specs.Words.{places, heads}
 use Rattle.frontier.specs.Frontier.{Frontier, Placed}
 use Rattle.state.specs.declared.Layout.{Layout}
 use Rattle.state.specs.declared.State.{State}
@@ -38,7 +38,7 @@ pub record Entered (layout : Layout) (sizes words words′ : List ℕ) (front v 
 -- heap").
 pub record Standing (layout : Layout) (sizes words : List ℕ) (place key : ℕ) : Type 0 where
   pub formed : Formed layout sizes
-  pub long : 4 * layout .nodes + 32 ≤ length words
+  pub long : heads (layout .nodes) ≤ length words
   pub few : layout .slots < 512
   pub bucket : ℕ
   pub segment : ℕ

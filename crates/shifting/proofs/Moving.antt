@@ -7,10 +7,9 @@ use mathlib.Core.Logic.{_≢_, _⊎_, inl, inr, ⊎-elim}
 use mathlib.Core.List.{List}
 use lib.Dec.{ltb}
 use lib.ListN.{length, getD}
-use Rattle.theory.specs.Sums.{sumBelow}
 use Rattle.theory.specs.Heap.{bound}
 use Rattle.theory.proofs.Cases.{same?}
-use Rattle.theory.proofs.Sums.{sum-change, sum-mono, sum-ones, sum-zero}
+use Rattle.theory.proofs.Sums.{sum-change, sum-zero}
 use Rattle.bounds.specs.Words.{boundsOf}
 use Rattle.buckets.specs.Words.{places, placeWord}
 use Rattle.buckets.specs.Answer.{InSlot, None}
@@ -21,14 +20,14 @@ use Rattle.frontier.specs.Frontier.{Frontier, Placed, FirstLeft}
 use Rattle.frontier.specs.Frontier.Laws.{placed-again, placed-here, placed-other}
 use Rattle.state.specs.declared.Layout.{Layout}
 use Rattle.state.specs.declared.State.{State}
-use Rattle.state.specs.Places.{isWord}
+use Rattle.state.specs.Places.{isWord, withWord}
 use Rattle.state.specs.Slots.{keyWord, Enters}
 use Rattle.state.proofs.Slots.{same-word, same-enters}
-use Rattle.state.proofs.Find.{isWord-low, isWord-same, isWord-other}
+use Rattle.state.proofs.Find.{words-few, isWord-same, isWord-other}
 use Rattle.state.specs.Tallies.{shifts, afterEvent}
 use Rattle.state.proofs.Tallies.{same-tally, same-insertions, same-decreases, same-shifts, same-looks}
 use Rattle.placing.specs.Placing.{Formed}
-use Rattle.shifting.specs.Moving.{shiftsOf, movedWord, Settles, Settled, inSlot, atCurrent, Distributes, Distributed}
+use Rattle.shifting.specs.Moving.{shiftsOf, movedWord, Settles, Settled, inSlot, Distributes, Distributed}
 
 -- The key of node v can be placed (document 01, "One-level heap").
 pub record Moves (layout : Layout) (sizes words distances : List ℕ) (s : State) (bucket v : ℕ) : Type 0 where
@@ -95,7 +94,7 @@ pub record Distributing (layout : Layout) (sizes words₀ distances : List ℕ) 
   pub bounds : (i : ℕ) → i < 24 → bound (boundsOf (layout .nodes) words) i ≡ bound (boundsOf (layout .nodes) words₀) i
   pub same-length : length words ≡ length words₀
   pub front : s .front ≡ s₀ .front
-  pub current : s .current ≡ atCurrent layout words
+  pub current : s .current ≡ withWord (layout .nodes) words 1
   pub reached : s .reached ≡ s₀ .reached
   pub tally : afterEvent (shifts (shiftsOf bucket (inSlot layout words slot))) (s .tally) ≡ afterEvent (shifts (shiftsOf bucket (inSlot layout words₀ slot))) (s₀ .tally)
 
@@ -112,9 +111,6 @@ shifts-low bucket a = go (ltb 1 bucket)
     go : (t : Bool) → cond t a 0 ≤ a
     go true = omega arith
     go false = omega arith
-
-count-low : (n c : ℕ) (word : ℕ → ℕ) → sumBelow n (λ w. isWord c (word w)) ≤ n
-count-low n c word = omega (arith, sum-mono n (λ w. isWord c (word w)) (λ w. 1) (λ w _. isWord-low c (word w)), sum-ones n)
 
 module _ {layout : Layout} {sizes words₀ distances : List ℕ} {s₀ : State} {bucket slot : ℕ} (Q : Distributes layout sizes words₀ distances s₀ bucket slot) where
   abbrev n : ℕ
@@ -157,8 +153,8 @@ module _ {layout : Layout} {sizes words₀ distances : List ℕ} {s₀ : State} 
       node = l;
       long = Q .long;
       enters = rw (P .front) (same-enters (Q .enters v l (first-word v l e)) (boundsOf n words) bounds-from);
-      current-few = omega (arith, P .current, count-low n 1 place, Q .frontier .few);
-      shifts-few = omega (arith, same-shifts (P .tally), Q .shifts-few, shifts-low bucket (inSlot layout words₀ slot), count-low n from (λ w. getD (places n words₀) w 0));
+      current-few = omega (arith, P .current, words-few n 1 place, Q .frontier .few);
+      shifts-few = omega (arith, same-shifts (P .tally), Q .shifts-few, shifts-low bucket (inSlot layout words₀ slot), words-few n from (λ w. getD (places n words₀) w 0));
     }
 
     module _ {v : ℕ} (l : v < n) (e : place v ≡ from) {words′ : List ℕ} {s′ : State} (M : Moved layout sizes words words′ distances s s′ bucket v) where
@@ -174,8 +170,8 @@ module _ {layout : Layout} {sizes words₀ distances : List ℕ} {s₀ : State} 
       new-apart : getD (places n words′) v 0 ≢ from
       new-apart q = Q .apart v l (first-word v l e) (sym here ∙ q)
 
-      count : (c : ℕ) → sumBelow n (λ w. isWord c (getD (places n words′) w 0)) + isWord c from ≡ sumBelow n (λ w. isWord c (place w)) + isWord c (getD (places n words′) v 0)
-      count c = ap (λ (x : ℕ). sumBelow n (λ w. isWord c (getD (places n words′) w 0)) + isWord c x) (sym e)
+      count : (c : ℕ) → withWord n words′ c + isWord c from ≡ withWord n words c + isWord c (getD (places n words′) v 0)
+      count c = ap (λ (x : ℕ). withWord n words′ c + isWord c x) (sym e)
           ∙ sum-change n v (λ w. isWord c (place w)) (λ w. isWord c (getD (places n words′) w 0)) l (λ w q. ap (isWord c) (there w q))
 
       one-fewer : inSlot layout words slot ≡ suc (inSlot layout words′ slot)

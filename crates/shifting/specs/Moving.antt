@@ -6,14 +6,13 @@ use mathlib.Core.Bool.{cond}
 use mathlib.Core.List.{List}
 use lib.Dec.{ltb}
 use lib.ListN.{length, getD}
-use Rattle.theory.specs.Sums.{sumBelow}
 use Rattle.theory.specs.Heap.{bound}
 use Rattle.bounds.specs.Words.{boundsOf}
 use Rattle.buckets.specs.Words.{places, placeWord, slotBucket}
 use Rattle.frontier.specs.Frontier.{Frontier}
 use Rattle.state.specs.declared.Layout.{Layout}
 use Rattle.state.specs.declared.State.{State}
-use Rattle.state.specs.Places.{isWord}
+use Rattle.state.specs.Places.{withWord}
 use Rattle.state.specs.Tallies.{shifts, afterEvent}
 use Rattle.state.specs.Slots.{keyWord, Enters}
 use Rattle.placing.specs.Placing.{Formed, Entering, Entered}
@@ -45,11 +44,7 @@ pub record Settled (layout : Layout) (sizes words words′ distances : List ℕ)
 
 -- The nodes that have the word of a slot (document 01, "Two-level heap").
 abbrev pub inSlot : (layout : Layout) → (words : List ℕ) → (slot : ℕ) → ℕ
-inSlot layout words slot = sumBelow (layout .nodes) (λ w. isWord (placeWord (layout .segments) slot) (getD (places (layout .nodes) words) w 0))
-
--- The nodes at the current key (document 01, "The search").
-abbrev pub atCurrent : (layout : Layout) → (words : List ℕ) → ℕ
-atCurrent layout words = sumBelow (layout .nodes) (λ w. isWord 1 (getD (places (layout .nodes) words) w 0))
+inSlot layout words slot = withWord (layout .nodes) words (placeWord (layout .segments) slot)
 
 -- Every node of a slot can be moved out of it (document 01, "Two-level heap").
 pub record Distributes (layout : Layout) (sizes words distances : List ℕ) (s : State) (bucket slot : ℕ) : Type 0 where
@@ -62,7 +57,7 @@ pub record Distributes (layout : Layout) (sizes words distances : List ℕ) (s :
       → Enters (layout .buckets) (layout .segments) sizes (boundsOf (layout .nodes) words) (s .front) (getD distances w 0) bucket
   pub apart : (w : ℕ) → w < layout .nodes → getD (places (layout .nodes) words) w 0 ≡ placeWord (layout .segments) slot
       → movedWord layout sizes words distances (s .front) bucket w ≢ placeWord (layout .segments) slot
-  pub current : s .current ≡ atCurrent layout words
+  pub current : s .current ≡ withWord (layout .nodes) words 1
   pub shifts-few : s .tally .shifts + layout .nodes < 4294967295
 
 -- Every node of the slot has moved, and no other (document 01, "Two-level heap").
@@ -75,6 +70,6 @@ pub record Distributed (layout : Layout) (sizes words words′ distances : List 
   pub bounds : (i : ℕ) → i < 24 → bound (boundsOf (layout .nodes) words′) i ≡ bound (boundsOf (layout .nodes) words) i
   pub same-length : length words′ ≡ length words
   pub front : s′ .front ≡ s .front
-  pub current : s′ .current ≡ atCurrent layout words′
+  pub current : s′ .current ≡ withWord (layout .nodes) words′ 1
   pub reached : s′ .reached ≡ s .reached
   pub tally : s′ .tally ≡ afterEvent (shifts (shiftsOf bucket (inSlot layout words slot))) (s .tally)

@@ -12,6 +12,7 @@ use Rattle.theory.specs.Sums.{sumBelow}
 use Rattle.theory.specs.Shape.{Shape}
 use Rattle.theory.specs.Search.{mark}
 use Rattle.theory.specs.Heap.{Heap, bound, bucketOf, keyOf, segmentOf}
+use Rattle.theory.proofs.Sums.{sum-mono, sum-ones}
 use Rattle.theory.proofs.Cases.{split, same?, mark-cases}
 use Rattle.theory.proofs.Lists.{getD-inside}
 use Rattle.theory.specs.Invariants.{Labelled, Least, AtRest, Fits, HeapInv}
@@ -45,6 +46,10 @@ isWord-low c x = go (eqb x c)
     go : (t : Bool) → cond t 1 0 ≤ 1
     go true = omega arith
     go false = omega arith
+
+-- No more nodes have a word than there are.
+pub words-few : (n c : ℕ) (word : ℕ → ℕ) → sumBelow n (λ w. isWord c (word w)) ≤ n
+words-few n c word = omega (arith, sum-mono n (λ w. isWord c (word w)) (λ w. 1) (λ w _. isWord-low c (word w)), sum-ones n)
 
 pub isWord-same : (c : ℕ) → isWord c c ≡ 1
 isWord-same c = rw (eq-eqb c c refl)

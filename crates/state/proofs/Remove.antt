@@ -9,6 +9,8 @@ use lib.Dec.{ltb}
 use lib.ListN.{length, getD, set, drop, length-append}
 use lib.Seq.{getD-set-same, getD-set-other, drop-cons, set-append-seam}
 use borrow.Author.Tests.{eq-eqb, ne-eqb, lt-ltb, le-ltb}
+use Rattle.model.specs.Answers.{wordsAfter}
+use Rattle.model.specs.declared.Check.the-variants.{Passed}
 use Rattle.theory.specs.Sums.{sumBelow}
 use Rattle.theory.specs.Shape.{Shape}
 use Rattle.theory.specs.Search.{Mark, unlabelled, labelled, scanned, mark, remove}
@@ -29,7 +31,7 @@ use Rattle.buckets.specs.Answer as Answer
 use Rattle.frontier.specs.Frontier.{Frontier, FirstCurrent}
 use Rattle.state.specs.declared.Layout.{Layout}
 use Rattle.state.specs.declared.State.{State}
-use Rattle.state.specs.Places.{placeOf, isWord}
+use Rattle.state.specs.Places.{placeOf, isWord, withWord}
 use Rattle.state.specs.Slots.{slotOf, slotWord, keyWord, SlotFits, Enters}
 use Rattle.state.specs.Stands.{Setting, Lists, Stands}
 use Rattle.state.specs.Tallies.{afterRemoval}
@@ -76,7 +78,7 @@ module _ {layout : Layout} {sizes : List ℕ} (X : Setting layout sizes) {before
   places-long = places-length n (l .words) (omega (arith, T .frontier .linked .fits .long))
 
   roster-after : (j k d v : ℕ) → Labelled (h .search) v → set (l .roster) (s .reached) v
-      ≡ heapRemove sh j k d v h .search .roster ++ drop (length (heapRemove sh j k d v h .search .roster)) before
+      ≡ wordsAfter Passed (heapRemove sh j k d v h .search .roster) before
   unfolding heapRemove remove
   roster-after j k d v on =
       rw (T .roster, T .reached) (roster-next (h .search .roster) before v (omega (arith, scans-fewer rest v on, X .nodes, long)))
@@ -286,7 +288,7 @@ module _ {layout : Layout} {sizes : List ℕ} (X : Setting layout sizes) {before
           out r = listed-word X T rest inv w on (later X T rest inv none-current w on) ∙ cc (r .0, r .1, listed-seg)
 
       pub listed-stands : {s′ : State} (looked : ℕ) → looked ≡ j + segmentLooks K k → Removing key (h′ .shifts - h .shifts) looked s s′ → h .shifts ≤ h′ .shifts
-          → s′ .current ≡ sumBelow n (λ w. isWord 1 (getD (Words.places n w′) w 0))
+          → s′ .current ≡ withWord n w′ 1
           → Stands layout sh before h′ (record { words = w′; distances = l .distances; parents = l .parents; roster = set (l .roster) (s .reached) v }) s′
       listed-stands {s′} looked looks-are c grown count = record {
         frontier = frontier;

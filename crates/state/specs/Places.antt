@@ -1,10 +1,14 @@
 -- The place word of each node: what the steps keep of a node, its mark and bucket (document 01, "The tallies"), as one word.
 use Prim.Native.Nat.{ℕ}
 use mathlib.Core.Bool.{cond}
+use mathlib.Core.List.{List}
 use lib.Dec.{eqb}
+use lib.ListN.{getD}
+use Rattle.theory.specs.Sums.{sumBelow}
 use Rattle.theory.specs.Search.{Mark, unlabelled, labelled, scanned, mark}
 use Rattle.theory.specs.Shape.{Shape}
 use Rattle.theory.specs.Heap.{Heap, bucketOf, keyOf, segmentOf}
+use Rattle.buckets.specs.Words.{places}
 
 -- The word of a node in segment k of bucket b, where `slot` numbers the segments of all buckets: 0 for unlabelled, 1 for labelled at
 -- the key that was scanned last, 2 for scanned (document 01, "Two-level heap").
@@ -21,3 +25,7 @@ placeOf slot sh front h v =
 -- 1 if a place word is the one that is counted, else 0 (document 01, "The search").
 abbrev pub isWord : (counted word : ℕ) → ℕ
 isWord counted word = cond (eqb word counted) 1 0
+
+-- How many of n nodes have this place word (document 01, "The search").
+abbrev pub withWord : (n : ℕ) → (words : List ℕ) → (word : ℕ) → ℕ
+withWord n words word = sumBelow n (λ v. isWord word (getD (places n words) v 0))

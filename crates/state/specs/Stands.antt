@@ -1,9 +1,10 @@
 -- The setting of a run, and what its words stand for.
 use Prim.Native.Nat.{ℕ, _+_, _-_, _*_, _≤_, _<_}
 use mathlib.Core.Path.{_≡_}
-use mathlib.Core.List.{List, _++_}
-use lib.ListN.{length, getD, drop}
-use Rattle.theory.specs.Sums.{sumBelow}
+use mathlib.Core.List.{List}
+use lib.ListN.{length, getD}
+use Rattle.model.specs.Answers.{wordsAfter}
+use Rattle.model.specs.declared.Check.the-variants.{Passed}
 use Rattle.theory.specs.Network.{Network, Admissible}
 use Rattle.theory.specs.Shape.{Shape}
 use Rattle.theory.specs.Heap.{Heap, bound}
@@ -13,7 +14,7 @@ use Rattle.buckets.specs.Words
 use Rattle.frontier.specs.Frontier.{Frontier}
 use Rattle.state.specs.declared.Layout.{Layout}
 use Rattle.state.specs.declared.State.{State}
-use Rattle.state.specs.Places.{placeOf, isWord}
+use Rattle.state.specs.Places.{placeOf, withWord}
 use Rattle.state.specs.Slots.{slotWord}
 use Rattle.state.specs.Tallies.{countsOf}
 
@@ -46,7 +47,7 @@ pub record Stands (layout : Layout) (shape : Shape) (before : List ℕ) (h : Hea
   pub bounds : (i : ℕ) → 1 ≤ i → i ≤ layout .buckets → bound (boundsOf (layout .nodes) (l .words)) i ≡ bound (h .bounds) i
   pub distances : l .distances ≡ h .search .distances
   pub parents : l .parents ≡ h .search .parents
-  pub roster : l .roster ≡ h .search .roster ++ drop (length (h .search .roster)) before
-  pub current : s .current ≡ sumBelow (layout .nodes) (λ v. isWord 1 (getD (Words.places (layout .nodes) (l .words)) v 0))
+  pub roster : l .roster ≡ wordsAfter Passed (h .search .roster) before
+  pub current : s .current ≡ withWord (layout .nodes) (l .words) 1
   pub reached : s .reached ≡ length (h .search .roster)
   pub tally : s .tally ≡ countsOf h

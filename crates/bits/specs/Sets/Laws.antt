@@ -1,26 +1,17 @@
--- What a caller's proofs cite: where a set begins, what it depends on, and what each promise says of one node. Assumes nothing.
-use mathlib.Core.Path.{_≡_, refl, sym, ap, _∙_, subst}
-use mathlib.Core.Logic.{_⊎_, inl, inr, _≢_}
+-- What a caller's proofs cite: where a set begins, and what it depends on. Assumes nothing.
+use mathlib.Core.Path.{_≡_, sym, ap, _∙_, subst}
+use mathlib.Core.Logic.{_≢_}
 use mathlib.Core.List.{List}
-use Prim.Native.Nat.{ℕ, _+_, _*_, _/_, _%_, _^_, _≤_, _<_}
+use Prim.Native.Nat.{ℕ, _+_, _*_, _/_, _%_, _^_, _<_}
 use native.Mathlib.Nat.{div-lt-iff-lt-mul}
 use native.Mathlib.Omega.{arith}
 use lib.ListN.{length, getD, set, length-set}
 use lib.Pow.{pow-pos}
 use lib.Seq.{getD-set-other}
 use Rattle.bits.specs.Word.{bit}
-use Rattle.bits.specs.Word.Laws.{bit-cases, bit-of-zero}
-use Rattle.bits.specs.Sets.{bitWords, summaryWords, at, In, Room, BitSet, Outside, Kept, Alike}
-use Rattle.bits.specs.Sets.Places.{split, word-below, out-of}
-
--- a node is in the set or not
-pub in-or-not : (d n bits : ℕ) (w : List ℕ) (v : ℕ) → In d n bits w v ⊎ (In d n bits w v → ⊥)
-in-or-not d n bits w v = go (split v n) (bit-cases (getD w (bits + v / d) 0) (v % d))
-  where
-    go : (v < n) ⊎ (n ≤ v) → (at d bits w v ≡ 0) ⊎ (at d bits w v ≡ 1) → In d n bits w v ⊎ (In d n bits w v → ⊥)
-    go (inl h) (inr e) = inl (record { below = h; marked = e })
-    go (inl h) (inl e) = inr (λ m. omega (arith, m .marked))
-    go (inr h) f = inr (λ m. omega (arith, m .below))
+use Rattle.bits.specs.Word.Laws.{bit-of-zero}
+use Rattle.bits.specs.Sets.{bitWords, summaryWords, at, In, Room, BitSet, Outside, Alike}
+use Rattle.bits.specs.Sets.Places.{word-below, out-of}
 
 -- ---- words that are all 0 are the empty set
 
@@ -107,12 +98,3 @@ alike-store {d} {n} {bits} {summary} w j x o =
       bits-same = λ i h. getD-set-other w j (bits + i) x 0 (out-of bits (bitWords d n) i j h (o .0));
       summary-same = λ i h. getD-set-other w j (summary + i) x 0 (out-of summary (summaryWords d n) i j h (o .1));
     }
-
--- ---- what several changes keep
-
-pub kept-refl : (d n bits summary : ℕ) (w : List ℕ) → Kept d n bits summary w w
-kept-refl d n bits summary w = record { same-length = refl; outside = λ j o. refl }
-
-pub kept-trans : {d n bits summary : ℕ} {w w′ w″ : List ℕ} → Kept d n bits summary w w′ → Kept d n bits summary w′ w″
-    → Kept d n bits summary w w″
-kept-trans k l = record { same-length = l .same-length ∙ k .same-length; outside = λ j o. l .outside j o ∙ k .outside j o }

@@ -140,9 +140,6 @@ module _ (n : ℕ) (words words′ : List ℕ) (long : 3 * n ≤ length words) (
 
 -- ---- what is kept
 
-pub kept-refl : (n own : ℕ) (words : List ℕ) → WordsKept n own words words
-kept-refl n own words = record { same-length = refl; same = λ j o. refl }
-
 pub kept-trans : {n own : ℕ} {words words′ words″ : List ℕ} → WordsKept n own words words′ → WordsKept n own words′ words″ → WordsKept n own words words″
 kept-trans a b =
     record { same-length = b .same-length ∙ a .same-length; same = λ j o. b .same j o ∙ a .same j o }
