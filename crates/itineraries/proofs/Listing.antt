@@ -17,8 +17,8 @@ use Rattle.checks.proofs.Valid.{passed-ready}
 use Rattle.runs.specs.Promise.{Lent, lent, lengthsOf, Ran, OneLevelPromised}
 use Rattle.fields.specs.Writing.{Writes}
 use Rattle.fields.proofs.Written.{writes-same}
-use Rattle.planning.specs.Planning.{PlanLists, mapInputs}
-use Rattle.itineraries.specs.Itineraries.{lineIfReached, routeLines, nodesTo, runRoute, runLines, wordsIfReached, routeFields, runFields, AllRoutable, ListRunnable, RunListed}
+use Rattle.planning.specs.Planning.{PlanLists, mapInputs, MapRunnable}
+use Rattle.itineraries.specs.Itineraries.{lineIfReached, routeLines, nodesTo, runRoute, runLines, wordsIfReached, routeFields, runFields, AllRoutable, RunListed}
 use Rattle.itineraries.proofs.Lines.{unreached-line, unreached-words}
 use Rattle.itineraries.proofs.Reaching.{nodes-past, reached-routable}
 
@@ -111,7 +111,7 @@ module _ (I : Inputs) (l l′ : Lent) {r : RunAnswer} (passed : firstFault (runC
 abbrev lentOf : PlanLists → Lent
 lentOf l = lent (l .distances) (l .parents) (l .roster) (l .work)
 
-module _ {n m C source : ℕ} {l : PlanLists} (R : ListRunnable n m C source l) where
+module _ {n m C source : ℕ} {l : PlanLists} (R : MapRunnable one n m C source l) where
   abbrev I : Inputs
   I = mapInputs n m C source l
 

@@ -11,7 +11,7 @@ use Rattle.model.specs.declared.Check.the-variants.{Passed, Fault}
 use Rattle.model.specs.Answers.{wordsAfter}
 use Rattle.theory.specs.Maps.{none, Map, Route, routeCost}
 use Rattle.theory.specs.Runs.{Inputs, one, workWords, stepsOf}
-use Rattle.checks.specs.Checks.{firstFault, runChecks}
+use Rattle.checks.specs.Checks.{firstFault}
 use Rattle.runs.specs.Promise.{RosterFilled, RosterAfter}
 use Rattle.walk.specs.Walk.{nodesOf, nodesAlong}
 use Rattle.route.specs.Routes.{routeWalk, routeChecks}
@@ -19,7 +19,7 @@ use Rattle.fields.specs.Fields.{comma, decimal, renderLine}
 use Rattle.fields.specs.Writing.{Writes}
 use Rattle.reader.specs.Plans.{Header, PlanArc, planHeader, planArcs, startsOf, headsOf, costsOf, planRun}
 use Rattle.report.specs.Report.{refusedText}
-use Rattle.planning.specs.Planning.{planningCheck, PlanLists, mapInputs, planLengths}
+use Rattle.planning.specs.Planning.{planningCheck, PlanLists, WordsLent}
 
 -- ---- the text
 
@@ -136,26 +136,12 @@ pub record AllRoutable (n source : ℕ) (starts heads distances parents : List �
   pub distances-fit : n ≤ length distances
   pub routable : (v : ℕ) → v < n → (getD distances v 0 ≡ none → ⊥) → Routable n source starts heads parents v
 
--- The words that `routes` lends of each list, and the bytes of its output: 512 lines, and 32 more, since a number is written where 20 bytes
--- are free (document 01, "Planning file").
+-- `routes` lends besides the route's words and the bytes of its output: 512 lines, and 32 more, since a number is written where 20 bytes are
+-- free (document 01, "Planning file").
 pub record ListLends (l : PlanLists) (route output : List ℕ) : Type 0 where
-  pub starts-words : length (l .starts) ≡ 513
-  pub heads-words : length (l .heads) ≡ 2048
-  pub costs-words : length (l .costs) ≡ 2048
-  pub distances-words : length (l .distances) ≡ 512
-  pub parents-words : length (l .parents) ≡ 512
-  pub roster-words : length (l .roster) ≡ 512
-  pub work-words : length (l .work) ≡ 2432
+  pub lists : WordsLent l
   pub route-words : length route ≡ 512
   pub output-bytes : length output ≡ 1056800
-
--- A map that has been read into the lists, which the one-level run accepts (document 01, "Planning file").
-pub record ListRunnable (n m C source : ℕ) (l : PlanLists) : Type 0 where
-  pub starts-fit : n + 1 ≤ length (l .starts)
-  pub heads-fit : m ≤ length (l .heads)
-  pub costs-fit : m ≤ length (l .costs)
-  pub nodes-fit : n ≤ 512
-  pub accepted : firstFault (runChecks one (mapInputs n m C source l) (planLengths l)) ≡ Passed
 
 -- The one-level run of these inputs is made, and its routes are written (document 01, "Routes" and "One-level heap").
 pub record RunListed (I : Inputs) (l l′ : PlanLists) (route route′ output output′ : List ℕ) (written : ℕ) : Type 0 where

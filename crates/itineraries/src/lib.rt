@@ -10,10 +10,11 @@ ghost use mathlib.Core.Path.{_≡_};
 ghost use Prim.Native.Nat.{_+_, _*_, _≤_, _<_};
 ghost use lib.ListN.{length};
 ghost use Rattle.theory.specs.Maps.{none};
+ghost use Rattle.theory.specs.Runs.{one};
 ghost use Rattle.fields.specs.Writing.{Writes};
-ghost use Rattle.planning.specs.Planning.{planLists, mapInputs};
+ghost use Rattle.planning.specs.Planning.{planLists, mapInputs, MapRunnable};
 ghost use Rattle.itineraries.specs.Itineraries.{routeLine, lineIfReached, routeLines, nodesTo, wordsIfReached, routeFields, behindCommas};
-ghost use Rattle.itineraries.specs.Itineraries.{lineBytes, Few, Routable, AllRoutable, ListLends, ListRunnable, RunListed, ItinerariesPromised};
+ghost use Rattle.itineraries.specs.Itineraries.{lineBytes, Few, Routable, AllRoutable, ListLends, RunListed, ItinerariesPromised};
 
 // The nodes of a route, each behind a comma.
 fn put_nodes(output: &mut [u8], at: usize, nodes: &[u32]) -> usize
@@ -134,7 +135,7 @@ fn list_map(
     route: &mut [u32],
     output: &mut [u8],
 ) -> usize
-    requires { ⌜ ListRunnable nodes arcs ceiling (source .0)
+    requires { ⌜ MapRunnable one nodes arcs ceiling (source .0)
         (planLists (now starts) (now heads) (now costs) (now distances) (now parents) (now roster) (now work)) ⌝ }
     requires { ⌜ (length (now route) ≡ 512) × (length (now output) ≡ 1056800) ⌝ }
     ensures { λ r. ⌜ RunListed

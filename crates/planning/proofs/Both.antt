@@ -133,13 +133,16 @@ module _ (m K : ℕ) (I : Inputs) (L L′ : PlanLists) where
 
   -- ---- as the code tells it
 
-  pub both-run : (between : Lent) {r₁ r₂ : RunAnswer} {a b : Numbers} {output output′ : List ℕ} {written : ℕ}
+  pub both-run : {between : Lent} {r₁ r₂ : RunAnswer} {a b : Numbers} {output output′ : List ℕ} {written : ℕ}
       → firstFault (runChecks one I (planLengths L)) ≡ Passed → firstFault (runChecks (two K) I (planLengths L)) ≡ Passed
-      → lengthsOf between ≡ planLengths L → Promised one I r₁ entry between → Promised (two K) I r₂ between exit
+      → Promised one I r₁ entry between → Promised (two K) I r₂ between exit
+      → length (between .distances) ≡ length (L .distances) → length (between .parents) ≡ length (L .parents)
+      → length (between .roster) ≡ length (L .roster) → length (between .work) ≡ length (L .work)
       → a ≡ numbersOf r₁ → b ≡ numbersOf r₂ → Writes 0 (runsText (I .map .nodes) m a b (L′ .distances) (L′ .parents)) output output′ written
       → BothRun m K I L L′ output output′ written
-  both-run between {r₁} {r₂} e f same P Q =
+  both-run {between} {r₁} {r₂} e f P Q distances parents roster work =
       let ready = passed-ready f in
+      let same : lengthsOf between ≡ planLengths L = rw (distances, parents, roster, work) refl in
       both-told (heaps-agree (ready .valid) one (two K) tt (allowed-segmented (two K) (ready .allowed)))
       (subst (λ (k : Check). Ran one I k r₁ entry between) e P)
       (subst (λ (k : Check). Ran (two K) I k r₂ between exit) (ap (λ (k : Lengths). firstFault (runChecks (two K) I k)) same ∙ f) Q)

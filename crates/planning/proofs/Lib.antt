@@ -1,3 +1,4 @@
+pub mod Reading
 pub mod Both
 pub mod Answering
 pub mod Marked

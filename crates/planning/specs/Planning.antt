@@ -11,7 +11,7 @@ use Rattle.model.specs.declared.Check.the-variants.{Passed, Fault}
 use Rattle.model.specs.Answers.{Numbers, wordsAfter}
 use Rattle.theory.specs.Maps.{Map}
 use Rattle.theory.specs.Heap.{Heap, placements}
-use Rattle.theory.specs.Runs.{Inputs, inputs, one, two, heapBuckets, workWords, stepsOf}
+use Rattle.theory.specs.Runs.{Inputs, inputs, Levels, one, two, heapBuckets, workWords, stepsOf}
 use Rattle.checks.specs.Checks.{firstFault, runChecks, Lengths, lengthsFor}
 use Rattle.runs.specs.Promise.{RosterAfter}
 use Rattle.fields.specs.Writing.{Writes}
@@ -106,8 +106,8 @@ PlanningPromised bytes l l′ output output′ written =
 
 -- ---- what the code goes by
 
--- The words that `plan` lends of each list, and the bytes of its output, which are enough for every answer (document 01, "Planning file").
-pub record PlanLends (l : PlanLists) (output : List ℕ) : Type 0 where
+-- The words that `plan` and `routes` lend of each list (document 01, "Planning file").
+pub record WordsLent (l : PlanLists) : Type 0 where
   pub starts-words : length (l .starts) ≡ 513
   pub heads-words : length (l .heads) ≡ 2048
   pub costs-words : length (l .costs) ≡ 2048
@@ -115,6 +115,10 @@ pub record PlanLends (l : PlanLists) (output : List ℕ) : Type 0 where
   pub parents-words : length (l .parents) ≡ 512
   pub roster-words : length (l .roster) ≡ 512
   pub work-words : length (l .work) ≡ 2432
+
+-- `plan` lends besides the bytes of its output, which are enough for every answer (document 01, "Planning file").
+pub record PlanLends (l : PlanLists) (output : List ℕ) : Type 0 where
+  pub lists : WordsLent l
   pub output-bytes : length output ≡ 33280
 
 -- The numbers that a run has returned, as document 01 names them (document 01, "What a call returns").
@@ -146,14 +150,18 @@ mapInputs n m C source l = inputs n C source (take (n + 1) (l .starts)) (take m 
 abbrev pub planLengths : PlanLists → Lengths
 planLengths l = lengthsFor (length (l .distances)) (length (l .parents)) (length (l .roster)) (length (l .work))
 
--- A map that has been read into the lists, which both runs accept (document 01, "Planning file").
-pub record MapRunnable (n m C source K : ℕ) (l : PlanLists) : Type 0 where
+-- A map that has been read into the lists, which the run of this kind of heap accepts (document 01, "Planning file").
+pub record MapRunnable (L : Levels) (n m C source : ℕ) (l : PlanLists) : Type 0 where
   pub starts-fit : n + 1 ≤ length (l .starts)
   pub heads-fit : m ≤ length (l .heads)
   pub costs-fit : m ≤ length (l .costs)
   pub nodes-fit : n ≤ 512
-  pub one-accepted : firstFault (runChecks one (mapInputs n m C source l) (planLengths l)) ≡ Passed
-  pub two-accepted : firstFault (runChecks (two K) (mapInputs n m C source l) (planLengths l)) ≡ Passed
+  pub accepted : firstFault (runChecks L (mapInputs n m C source l) (planLengths l)) ≡ Passed
+
+-- One that both runs accept (document 01, "Planning file").
+pub record BothRunnable (n m C source K : ℕ) (l : PlanLists) : Type 0 where
+  pub one-level : MapRunnable one n m C source l
+  pub two-level : MapRunnable (two K) n m C source l
 
 -- Both runs of m arcs with K, over what they are given, are made and told (document 01, "Planning file").
 pub record BothRun (m K : ℕ) (I : Inputs) (l l′ : PlanLists) (output output′ : List ℕ) (written : ℕ) : Type 0 where

@@ -9,7 +9,7 @@ ghost use Prim.Native.Nat.{_+_, _*_, _≤_};
 ghost use lib.ListN.{length};
 ghost use Rattle.model.specs.Answers.{numbersOf};
 ghost use Rattle.fields.specs.Writing.{Writes};
-ghost use Rattle.planning.specs.Planning.{planLists, PlanningPromised, PlanLends, told, runsText, mapInputs, MapRunnable, BothRun};
+ghost use Rattle.planning.specs.Planning.{planLists, PlanningPromised, PlanLends, told, runsText, mapInputs, BothRunnable, BothRun};
 
 // What a run has returned: number and place, then its numbers.
 pub struct RunNumbers {
@@ -109,7 +109,7 @@ fn plan_map(
     work: &mut [u32],
     output: &mut [u8],
 ) -> usize
-    requires { ⌜ MapRunnable nodes arcs ceiling (source .0) segments
+    requires { ⌜ BothRunnable nodes arcs ceiling (source .0) segments
         (planLists (now starts) (now heads) (now costs) (now distances) (now parents) (now roster) (now work)) ⌝ }
     requires { ⌜ length (now output) ≡ 33280 ⌝ }
     ensures { λ r. ⌜ BothRun arcs segments

@@ -6,3 +6,4 @@ mod Progress
 pub mod Rendered
 pub mod Runnable
 mod Shown
+pub mod Told

@@ -1,17 +1,11 @@
 -- `itineraries::answer_in` meets its contract. Assumes nothing.
 use native.Mathlib.Omega.{arith}
-use mathlib.Core.Path.{refl}
 use borrow.Author.Needs.{needs}
-use Rattle.planning.specs.Planning.{PlanLists, planLists}
-use Rattle.itineraries.proofs.Answering.{too-long, read-refused, read-map, map-listed}
+use Rattle.itineraries.proofs.Answering.{too-long, read-refused, one-read, map-listed}
 use Rattle.itineraries.proofs.answer_in.Statement.{statement}
 use Rattle.itineraries.proofs.answer_in.Tie as tie
 
--- the lists at entry
-abbrev entry : tie.Start → PlanLists
-entry s = planLists (s .args .starts .now) (s .args .heads .now) (s .args .costs .now) (s .args .distances .now) (s .args .parents .now) (s .args .roster .now) (s .args .work .now)
-
--- The places that the answers name: the start, the bytes' number allowed, the file read, the map found in it, and its routes listed.
+-- The places that the answers name: the start, the bytes' number allowed, and the file read.
 abbrev start : tie.Else1 → tie.Start
 start c = search needs
 
@@ -26,21 +20,16 @@ found-before c = search needs
 
 returns : tie.Need-returns
 returns c =
-    let s : tie.Start = search needs in
     let long : tie.Then1 = search needs in
     let told : tie.After-write-refusal = search needs in
-    too-long (s .args .bytes .now) (entry s) (long .if1 .taken) (told .write-refusal .ensures)
+    too-long _ _ (long .if1 .taken) (told .write-refusal .ensures)
 
 list-map-requires : tie.Need-list-map-requires
 list-map-requires c κs =
     let found : tie.After-nodes = search needs in
     let r = map-read found in
-    let s = start (short r) in
-    let read = r .read in (
-      read-map (s .args .bytes .now) (short r .if1 .left) (entry s) (s .pre) (read .last .1 .0) (read .last .1 .1 .0) (read .last .1 .1 .1 .0) (read .ensures)
-          (found .nodes .given .1) (omega (arith, read .kept)) (omega (arith, read .kept)) (omega (arith, read .kept)),
-      (s .pre .route-words, s .pre .output-bytes),
-    )
+    let lends = start (short r) .pre in
+    (one-read (short r .if1 .left) (lends .lists) (r .read .ensures) (found .nodes .given .1), (lends .route-words, lends .output-bytes))
 
 same-length-2 : tie.Need-same-length-2
 same-length-2 c = let r : tie.After-read = search needs in omega (arith, r .read .kept)
@@ -59,10 +48,7 @@ returns-2 c =
     let told : tie.After-write-refusal2 = search needs in
     let fault : tie.After-number = search needs in
     let r : tie.After-read = search needs in
-    let s = start (short r) in
-    let read = r .read in
-    read-refused (s .args .bytes .now) (short r .if1 .left) (entry s) (s .pre) (read .last .1 .0) (read .last .1 .1 .0) (read .last .1 .1 .1 .0) (read .ensures)
-    (fault .number .given .1) (told .write-refusal2 .ensures)
+    read-refused (short r .if1 .left) (start (short r) .pre .lists) (r .read .ensures) (fault .number .given .1) (told .write-refusal2 .ensures)
 
 same-length-6 : tie.Need-same-length-6
 same-length-6 c = let listed : tie.After-list-map = search needs in omega (arith, map-read (found-before listed) .read .kept)
@@ -96,10 +82,7 @@ returns-3 c =
     let listed : tie.After-list-map = search needs in
     let found = found-before listed in
     let r = map-read found in
-    let s = start (short r) in
-    let read = r .read in
-    map-listed (s .args .bytes .now) (short r .if1 .left) (entry s) (s .pre) (read .last .1 .0) (read .last .1 .1 .0) (read .last .1 .1 .1 .0) (read .ensures)
-    (found .nodes .given .1) _ refl refl refl (listed .list-map .ensures)
+    map-listed (short r .if1 .left) (start (short r) .pre .lists) (r .read .ensures) (found .nodes .given .1) (listed .list-map .ensures)
 
 pub answer-in-spec : {M : Type 1} → statement M
 answer-in-spec =

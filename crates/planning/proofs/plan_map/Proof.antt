@@ -1,11 +1,9 @@
 -- `planning::plan_map` meets its contract. Assumes nothing.
 use native.Mathlib.Omega.{arith}
-use mathlib.Core.Path.{_≡_, refl, sym}
-use lib.ListN.{length}
+use mathlib.Core.Path.{sym}
 use lib.Seq.{length-take-le}
 use borrow.Author.Needs.{needs}
 use Rattle.checks.proofs.Valid.{passed-ready}
-use Rattle.runs.specs.Promise.{Lent, lent, lengthsOf}
 use Rattle.planning.proofs.Both.{both-run}
 use Rattle.planning.proofs.plan_map.Statement.{statement}
 use Rattle.planning.proofs.plan_map.Tie as tie
@@ -17,40 +15,22 @@ start c = search needs
 abbrev one-of : tie.After-two-level → tie.After-one-level
 one-of c = search needs
 
--- the lists at entry, and behind the one-level run
-module _ (c : tie.After-one-level) where
-  abbrev entry : Lent
-  entry = lent (start c .args .distances .now) (start c .args .parents .now) (start c .args .roster .now) (start c .args .work .now)
-
-  abbrev between : Lent
-  between =
-      let left = c .one-level .last .1 .1 .1 .1 .1 .1 in
-      lent (left .0) (left .1 .0) (left .1 .1 .0) (left .1 .1 .1 .0)
-
-  same-lengths : lengthsOf between ≡ lengthsOf entry
-  same-lengths =
-      let distances : length (between .distances) ≡ length (entry .distances) = omega (arith, c .one-level .kept) in
-      let parents : length (between .parents) ≡ length (entry .parents) = omega (arith, c .one-level .kept) in
-      let roster : length (between .roster) ≡ length (entry .roster) = omega (arith, c .one-level .kept) in
-      let work : length (between .work) ≡ length (entry .work) = omega (arith, c .one-level .kept) in
-      rw (distances, parents, roster, work) refl
-
 slice-aggregate-map-starts : tie.Need-slice-aggregate-map-starts
-slice-aggregate-map-starts c = let s : tie.Start = search needs in sym (length-take-le _ _ (s .pre .0 .starts-fit))
+slice-aggregate-map-starts c = let s : tie.Start = search needs in sym (length-take-le _ _ (s .pre .0 .one-level .starts-fit))
 
 slice-aggregate-map-heads : tie.Need-slice-aggregate-map-heads
-slice-aggregate-map-heads c = let s : tie.Start = search needs in sym (length-take-le _ _ (s .pre .0 .heads-fit))
+slice-aggregate-map-heads c = let s : tie.Start = search needs in sym (length-take-le _ _ (s .pre .0 .one-level .heads-fit))
 
 slice-aggregate-map-costs : tie.Need-slice-aggregate-map-costs
-slice-aggregate-map-costs c = let s : tie.Start = search needs in sym (length-take-le _ _ (s .pre .0 .costs-fit))
+slice-aggregate-map-costs c = let s : tie.Start = search needs in sym (length-take-le _ _ (s .pre .0 .one-level .costs-fit))
 
 write-runs-requires : tie.Need-write-runs-requires
 write-runs-requires c κs =
     let two : tie.After-two-level = search needs in
     let one = one-of two in
     let p = start one .pre in
-    let ready = passed-ready (p .0 .one-accepted) in (
-      omega (arith, p .0 .nodes-fit, p .1),
+    let ready = passed-ready (p .0 .one-level .accepted) in (
+      omega (arith, p .0 .one-level .nodes-fit, p .1),
       (
         omega (arith, ready .distances-fit, two .two-level .kept, one .one-level .kept),
         omega (arith, ready .parents-fit, two .two-level .kept, one .one-level .kept),
@@ -77,7 +57,9 @@ returns c =
     let first : tie.After-numbers-of = search needs in
     let second : tie.After-numbers-of2 = search needs in
     let written : tie.After-write-runs = search needs in
-    both-run _ _ _ _ _ (between one) (runnable .one-accepted) (runnable .two-accepted) (same-lengths one) (one .one-level .ensures) (r .two-level .ensures)
+    let kept = one .one-level .kept in
+    both-run _ _ _ _ _ (runnable .one-level .accepted) (runnable .two-level .accepted) (one .one-level .ensures) (r .two-level .ensures)
+    (omega (arith, kept)) (omega (arith, kept)) (omega (arith, kept)) (omega (arith, kept))
     (first .numbers-of .ensures) (second .numbers-of2 .ensures) (written .write-runs .ensures)
 
 pub plan-map-spec : {M : Type 1} → statement M

@@ -1,0 +1,60 @@
+-- What `plan` and `routes` go by when the reader has answered: the most bytes, and the words of the lists that they lend. Assumes nothing.
+use Prim.Native.Nat.{ℕ, _≤_, _<_}
+use native.Mathlib.Omega.{arith}
+use mathlib.Core.Path.{_≡_, refl, sym, _∙_, subst}
+use mathlib.Core.List.{List}
+use lib.ListN.{length}
+use borrow.Author.Tests.{lt-ltb, le-ltb}
+use Rattle.model.specs.declared.Check.the-variants.{Passed, Fault}
+use Rattle.model.specs.declared.Node.{Node}
+use Rattle.theory.specs.Runs.{Inputs, Levels, two, Allowed, fixedWords}
+use Rattle.checks.specs.Checks.{firstFault, runChecks}
+use Rattle.reader.specs.declared.PlanAnswer.{PlanAnswer}
+use Rattle.reader.specs.declared.PlanAnswer.the-variants.{Read, Refused}
+use Rattle.reader.specs.Checking.{planCheck}
+use Rattle.reader.specs.Plans.{planHeader}
+use Rattle.reader.specs.Promise.{PlanPromised}
+use Rattle.reader.proofs.Runnable.{runs-pass}
+use Rattle.reader.proofs.Told.{refused, refused-told, passed, runnable, nodes-told, starts-front, heads-front, costs-front, inputs-told}
+use Rattle.planning.specs.Planning.{planningCheck, PlanLists, planLists, planLengths, WordsLent, MapRunnable}
+
+-- The lists with a map in them.
+abbrev pub mapIn : PlanLists → (starts heads costs : List ℕ) → PlanLists
+mapIn l starts heads costs = planLists starts heads costs (l .distances) (l .parents) (l .roster) (l .work)
+
+pub long-check : (bytes : List ℕ) → 65536 < length bytes → planningCheck bytes ≡ Fault 13 0
+unfolding planningCheck
+long-check bytes long = rw (lt-ltb 65536 (length bytes) long) refl
+
+module _ {bytes : List ℕ} (short : length bytes ≤ 65536) {l : PlanLists} (lent : WordsLent l) {starts′ heads′ costs′ : List ℕ} {answer : PlanAnswer}
+    (P : PlanPromised bytes (l .starts) (l .heads) (l .costs) starts′ heads′ costs′ answer) where
+  check-lent : planningCheck bytes ≡ planCheck bytes (length (l .starts)) (length (l .heads)) (length (l .costs))
+  unfolding planningCheck
+  check-lent = rw (le-ltb 65536 (length bytes) short, lent .starts-words, lent .heads-words, lent .costs-words) refl
+
+  module _ {number place : ℕ} (a : answer ≡ Refused number place) where
+    pub refused-check : planningCheck bytes ≡ Fault number place
+    refused-check = check-lent ∙ refused P a
+
+    pub untouched : mapIn l starts′ heads′ costs′ ≡ l
+    untouched = let told = refused-told P a in rw (told .starts-after, told .heads-after, told .costs-after) refl
+
+  module _ {n m C K : ℕ} {source : Node} (a : answer ≡ Read n m C source K) where
+    pub passed-check : planningCheck bytes ≡ Passed
+    passed-check = check-lent ∙ passed P a
+
+    few : planHeader bytes .nodes ≤ 512
+    few = omega (arith, runnable P a .starts-fit, lent .starts-words)
+
+    -- The run of every kind of heap that is allowed is accepted.
+    pub map-read : (L : Levels) → Allowed L → fixedWords L ≤ 384 → MapRunnable L n m C (source .0) (mapIn l starts′ heads′ costs′)
+    map-read L allowed words = record {
+      starts-fit = starts-front P a .1;
+      heads-fit = heads-front P a .1;
+      costs-fit = costs-front P a .1;
+      nodes-fit = omega (arith, few, nodes-told P a);
+      accepted =
+          subst (λ (I : Inputs). firstFault (runChecks L I (planLengths l)) ≡ Passed) (sym (inputs-told P a))
+          (runs-pass bytes _ _ _ (passed P a) L allowed (planLengths l) (omega (arith, few, lent .distances-words)) (omega (arith, few, lent .parents-words))
+          (omega (arith, few, lent .roster-words)) (omega (arith, few, lent .work-words, words)));
+    }
