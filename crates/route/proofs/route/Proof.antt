@@ -1,56 +1,80 @@
 -- `route::route` meets its contract. Assumes nothing.
-use Prim.Native.Nat.{_-_}
 use native.Mathlib.Omega.{arith}
 use mathlib.Core.Path.{_≡_, refl, sym, ap, _∙_}
-use mathlib.Core.List.{[], _∷_}
 use lib.ListN.{length}
 use borrow.Author.Needs.{needs}
 use Rattle.model.specs.declared.Check.the-variants.{Passed}
 use Rattle.checks.specs.Checks.{firstFault}
-use Rattle.walk.specs.Walk.{Table, Walks}
-use Rattle.route.specs.Routes.{tableChecks, destinationCheck, parentCheck, walkedNumbers}
+use Rattle.walk.specs.Walk.{Table}
+use Rattle.route.specs.Routes.{tableChecks, walkedNumbers}
 use Rattle.route.proofs.Checking.{passed-table, destination-node, table-refused, destination-refused, walk-promised}
 use Rattle.route.proofs.route.Statement.{statement}
 use Rattle.route.proofs.route.Tie as tie
 
-table : (s : tie.Start) → firstFault (tableChecks (s .args .n) (s .args .source .0) (s .args .starts .now) (s .args .heads .now) (length (s .args .parents .now))) ≡ Passed
-    → Table (s .args .n) (s .args .source .0) (s .args .starts .now) (s .args .heads .now) (s .args .parents .now)
-table s e = passed-table (s .args .n) (s .args .source .0) (s .args .starts .now) (s .args .heads .now) (s .args .parents .now) e
+-- The places that the answers name: the start, the table checked and passed, the destination checked and passed.
+abbrev start : tie.After-table-check → tie.Start
+start c = search needs
 
-walks : (s : tie.Start) → Table (s .args .n) (s .args .source .0) (s .args .starts .now) (s .args .heads .now) (s .args .parents .now) → firstFault (destinationCheck (s .args .n) (s .args .destination .0) ∷ parentCheck (s .args .source .0) (s .args .parents .now) (s .args .destination .0) ∷ []) ≡ Passed
-    → Walks (s .args .n) (s .args .source .0) (s .args .starts .now) (s .args .heads .now) (s .args .parents .now) (s .args .destination .0) (s .args .n - 1) 0
-walks s t e = record {
-  table = t;
-  node = destination-node (s .args .n) (s .args .source .0) (s .args .parents .now) (s .args .destination .0) e;
-  short = omega (arith, t .valid .some-node);
-}
+abbrev table-checked : tie.After-enum-told → tie.After-table-check
+table-checked c = search needs
+
+abbrev table-passed : tie.After-destination-check → tie.After-enum-told
+table-passed c = search needs
+
+abbrev checked : tie.After-enum-told2 → tie.After-destination-check
+checked c = search needs
+
+abbrev passed : tie.After-walk → tie.After-enum-told2
+passed c = search needs
+
+-- the arguments at a place behind the check of the table
+abbrev given : tie.After-enum-told → tie.Start
+given c = start (table-checked c)
+
+table-passes : (c : tie.After-enum-told)
+    → firstFault (tableChecks (given c .args .n) (given c .args .source .0) (given c .args .starts .now) (given c .args .heads .now) (length (given c .args .parents .now))) ≡ Passed
+table-passes c = sym (table-checked c .table-check .ensures) ∙ c .enum-told .given .1
+
+table : (c : tie.After-enum-told)
+    → Table (given c .args .n) (given c .args .source .0) (given c .args .starts .now) (given c .args .heads .now) (given c .args .parents .now)
+table c = passed-table _ _ _ _ _ (table-passes c)
 
 returns : tie.Need-returns
-returns c = let s = c .before .before .before .before .before .before .before .before in table-refused (s .args .n) (s .args .source .0) (s .args .starts .now) (s .args .heads .now) (s .args .parents .now) (s .args .destination .0) (s .args .route .now) (sym (c .before .before .before .table-check .ensures) ∙ c .before .table .given .1) refl
+returns c =
+    let fault : tie.After-table = search needs in
+    let made : tie.After-table-check = search needs in
+    table-refused _ _ _ _ _ _ _ (sym (made .table-check .ensures) ∙ fault .table .given .1) refl
 
 destination-check-requires : tie.Need-destination-check-requires
-destination-check-requires c κs = table (c .before .before .before .before .before .before .before) (sym (c .before .before .table-check .ensures) ∙ c .enum-told .given .1) .long
+destination-check-requires c κs = let t : tie.After-enum-told = search needs in table t .long
 
 returns-2 : tie.Need-returns-2
 returns-2 c =
-    let s = c .before .before .before .before .before .before .before .before .before .before .before in
-    destination-refused (s .args .n) (s .args .source .0) (s .args .starts .now) (s .args .heads .now) (s .args .parents .now) (s .args .destination .0) (s .args .route .now) (sym (c .before .before .before .before .before .before .table-check .ensures) ∙ c .before .before .before .before .enum-told .given .1)
-    (sym (c .before .before .before .destination-check .ensures) ∙ c .before .check .given .1) refl
+    let fault : tie.After-check = search needs in
+    let made : tie.After-destination-check = search needs in
+    destination-refused _ _ _ _ _ _ _ (table-passes (table-passed made)) (sym (made .destination-check .ensures) ∙ fault .check .given .1) refl
 
 sub-walk : tie.Need-sub-walk
-sub-walk c = omega (arith, table (c .before .before .before .before .before .before .before .before .before .before .before) (sym (c .before .before .before .before .before .before .table-check .ensures) ∙ c .before .before .before .before .enum-told .given .1) .valid .some-node)
+sub-walk c = let t : tie.After-enum-told = search needs in omega (arith, table t .valid .some-node)
 
 walk-requires : tie.Need-walk-requires
 walk-requires c κs =
-    walks (c .before .before .before .before .before .before .before .before .before .before .before) (table (c .before .before .before .before .before .before .before .before .before .before .before) (sym (c .before .before .before .before .before .before .table-check .ensures) ∙ c .before .before .before .before .enum-told .given .1))
-    (sym (c .before .before .before .destination-check .ensures) ∙ c .before .enum-told2 .given .1)
+    let p : tie.After-enum-told2 = search needs in
+    let made = checked p in
+    let t = table (table-passed made) in
+    record {
+      table = t;
+      node = destination-node _ _ (given (table-passed made) .args .parents .now) _ (sym (made .destination-check .ensures) ∙ p .enum-told2 .given .1);
+      short = omega (arith, t .valid .some-node);
+    }
 
 returns-3 : tie.Need-returns-3
 returns-3 c =
-    let s = c .before .before .before .before .before .before .before .before .before .before .before .before .before .before .before in
-    walk-promised (s .args .n) (s .args .source .0) (s .args .starts .now) (s .args .heads .now) (s .args .parents .now) (s .args .destination .0) (s .args .route .now) (sym (c .before .before .before .before .before .before .before .before .before .before .table-check .ensures) ∙ c .before .before .before .before .before .before .before .before .enum-told .given .1)
-    (sym (c .before .before .before .before .before .before .before .destination-check .ensures) ∙ c .before .before .before .before .before .enum-told2 .given .1)
-    (c .answer .ensures ∙ ap walkedNumbers (c .before .before .before .walk .ensures .0)) (c .before .before .before .walk .ensures .1)
+    let walked : tie.After-walk = search needs in
+    let p = passed walked in
+    let made = checked p in
+    walk-promised _ _ _ _ _ _ _ (table-passes (table-passed made)) (sym (made .destination-check .ensures) ∙ p .enum-told2 .given .1)
+    (c .answer .ensures ∙ ap walkedNumbers (walked .walk .ensures .0)) (walked .walk .ensures .1)
 
 pub route-spec : {M : Type 1} → statement M
 route-spec =
