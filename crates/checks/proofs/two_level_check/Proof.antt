@@ -8,9 +8,11 @@ use Rattle.checks.proofs.two_level_check.Tie as tie
 returns : tie.Need-returns
 unfolding runChecks
 returns c =
-    both (record { is = c .before .before .before .before .map-check .ensures })
-    (both (one (c .before .before .before .segments-check .ensures)) (record { is = c .before .before .run-lists-check .ensures })
-    (c .before .first-of .ensures))
+    let made : tie.After-map-check = search needs in
+    let segments : tie.After-segments-check = search needs in
+    let lists : tie.After-run-lists-check = search needs in
+    both (record { is = made .map-check .ensures })
+    (both (one (segments .segments-check .ensures)) (record { is = lists .run-lists-check .ensures }) (c .before .first-of .ensures))
     (c .first-of2 .ensures) .is
 
 pub two-level-check-spec : {M : Type 1} → statement M

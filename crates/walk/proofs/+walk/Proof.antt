@@ -42,10 +42,16 @@ claims t = (
 )
 
 module _ (t : ℕ) where
-  -- The places that the answers name: the start, away from the source, an arc allowed, the parent looked at, found to lead to v, its tail
-  -- found, and the walk from there.
+  -- The places that the answers name: the start, at the source and the route begun, away from the source, an arc allowed, the parent looked
+  -- at, found to lead to v, its tail found, the walk from there, and v written behind it.
   abbrev Start : Type 0
   Start = lts.Start (claims t) (walk-at t) walk.Post
+
+  abbrev Then1 : Type 0
+  Then1 = lts.Then1 (claims t) (walk-at t) walk.Post
+
+  abbrev After-arrive : Type 0
+  After-arrive = lts.After-arrive (claims t) (walk-at t) walk.Post
 
   abbrev Else1 : Type 0
   Else1 = lts.Else1 (claims t) (walk-at t) walk.Post
@@ -64,6 +70,9 @@ module _ (t : ℕ) where
 
   abbrev After-walk : Type 0
   After-walk = lts.After-walk (claims t) (walk-at t) walk.Post
+
+  abbrev After-write-behind : Type 0
+  After-write-behind = lts.After-write-behind (claims t) (walk-at t) walk.Post
 
   abbrev start : Else1 → Start
   start c = search needs
@@ -93,7 +102,10 @@ module _ (t : ℕ) where
   same-length c = search needs
 
   returns : lts.Need-returns (claims t) (walk-at t) walk.Post
-  returns c = rw (back-source _ _ _ _ _ _ _ (c .before .before .before .before .if1 .taken)) (c .before .before .arrive .ensures)
+  returns c =
+      let here : Then1 = search needs in
+      let a : After-arrive = search needs in
+      rw (back-source _ _ _ _ _ _ _ (here .if1 .taken)) (a .arrive .ensures)
 
   returns-2 : lts.Need-returns-2 (claims t) (walk-at t) walk.Post
   returns-2 c =
@@ -149,7 +161,7 @@ module _ (t : ℕ) where
       let l = looked-at g in
       let a = allowed l in
       walked-on (entry a .pre .1) (f .tail-of .result .0) (away a .if1 .left) (sym (l .leads-to .ensures) ∙ not-false _ (g .if3 .left)) (f .tail-of .ensures)
-      (omega (arith, a .if2 .left)) _ (w .walk .ensures) (c .before .before .write-behind .ensures)
+      (omega (arith, a .if2 .left)) _ (w .walk .ensures) (let b : After-write-behind = search needs in b .write-behind .ensures)
 
 pub +walk-spec : {M : Type 1} → statement M
 +walk-spec =

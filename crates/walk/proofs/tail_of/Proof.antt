@@ -28,24 +28,27 @@ mul-if1 : tie.Need-mul-if1 Inv-loop μ-loop
 mul-if1 c = omega (arith, c .before .loop .inv .some, c .before .loop .inv .high-node, c .before .before .pre .few)
 
 shared-slice-read-if1 : tie.Need-shared-slice-read-if1 Inv-loop μ-loop
-shared-slice-read-if1 c = within-inside (c .before .before .before .pre) (c .before .before .loop .inv) (omega (arith, c .before .before .loop .inv .some))
+shared-slice-read-if1 c =
+    let l : tie.At-loop Inv-loop μ-loop = search needs in within-inside (l .before .pre) (l .loop .inv) (omega (arith, l .loop .inv .some))
 
 loop-less : tie.Need-loop-less Inv-loop μ-loop
-loop-less c = let L = c .before .before .before .before .loop in omega (arith, L .inv .some, c .before .before .before .loop-test .taken)
+loop-less c = let i : tie.In-loop Inv-loop μ-loop = search needs in omega (arith, i .before .loop .inv .some, i .loop-test .taken)
 
 loop-again : tie.Need-loop-again Inv-loop μ-loop
 loop-again c =
-    let L = c .before .before .before .before .loop .inv in
-    record { some = omega (arith, L .some, c .before .before .before .loop-test .taken); high-node = L .high-node; from = c .if1 .taken; to = L .to }
+    let i : tie.In-loop Inv-loop μ-loop = search needs in
+    let L = i .before .loop .inv in
+    record { some = omega (arith, L .some, i .loop-test .taken); high-node = L .high-node; from = c .if1 .taken; to = L .to }
 
 loop-less-2 : tie.Need-loop-less-2 Inv-loop μ-loop
-loop-less-2 c = let L = c .before .before .before .before .loop in omega (arith, L .inv .some, c .before .before .before .loop-test .taken)
+loop-less-2 c = let i : tie.In-loop Inv-loop μ-loop = search needs in omega (arith, i .before .loop .inv .some, i .loop-test .taken)
 
 loop-again-2 : tie.Need-loop-again-2 Inv-loop μ-loop
 loop-again-2 c =
-    let L = c .before .before .before .before .loop .inv in
+    let i : tie.In-loop Inv-loop μ-loop = search needs in
+    let L = i .before .loop .inv in
     record {
-      some = omega (arith, L .some, c .before .before .before .loop-test .taken);
+      some = omega (arith, L .some, i .loop-test .taken);
       high-node = omega (arith, L .some, L .high-node);
       from = L .from;
       to = omega (arith, c .if1 .left);

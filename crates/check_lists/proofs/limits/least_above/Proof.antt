@@ -19,11 +19,12 @@ abbrev μ-loop : tie.MeasureT-loop
 
 returns : tie.Need-returns Inv-loop μ-loop
 returns c =
-    let limit = c .before .before .before .before .args .limit in
-    let words = c .before .before .before .before .args .words .now in
-    let i = c .before .before .before .loop .i in
-    sym (least-fails _ (λ k. ltb limit (getD words k 0)) (length words) i (c .before .before .before .loop .inv .1)
-    (lt-ltb limit (getD words i 0) (c .if1 .taken)) (search needs))
+    let s : tie.Start Inv-loop μ-loop = search needs in
+    let l : tie.At-loop Inv-loop μ-loop = search needs in
+    let limit = s .args .limit in
+    let words = s .args .words .now in
+    sym (least-fails _ (λ k. ltb limit (getD words k 0)) (length words) (l .loop .i) (l .loop .inv .1)
+    (lt-ltb limit (getD words (l .loop .i) 0) (c .if1 .taken)) (search needs))
 
 loop-again : tie.Need-loop-again Inv-loop μ-loop
 loop-again c = (

@@ -19,12 +19,14 @@ abbrev μ-loop : tie.MeasureT-loop
 
 loop-again : tie.Need-loop-again Inv-loop μ-loop
 loop-again c =
-    let words = c .before .before .before .before .args .words .now in
-    let any = c .before .before .before .loop .any in
-    let i = c .before .before .before .loop .i in
+    let s : tie.Start Inv-loop μ-loop = search needs in
+    let l : tie.At-loop Inv-loop μ-loop = search needs in
+    let words = s .args .words .now in
+    let any = l .loop .any in
+    let i = l .loop .i in
     let falls = ltb (getD words i 0) (getD words (i - 1) 0) in (
       search needs,
-      λ e. below-more _ i (c .before .before .before .loop .inv .1 (or-left any falls e)) (λ l. ltb-false _ _ (or-right any falls e)),
+      λ e. below-more _ i (l .loop .inv .1 (or-left any falls e)) (λ p. ltb-false _ _ (or-right any falls e)),
     )
 
 returns : tie.Need-returns Inv-loop μ-loop

@@ -18,9 +18,10 @@ abbrev μ-loop : tie.MeasureT-loop
 returns : tie.Need-returns Inv-loop μ-loop
 unfolding startsCheck
 returns c =
-    let n = c .before .before .before .before .before .args .n in
-    let i = c .before .before .before .loop .i in
-    sym (least-fails 6 (startFails n _ _) (n + 1) i (c .before .before .before .loop .inv .1)
+    let s : tie.Start Inv-loop μ-loop = search needs in
+    let l : tie.At-loop Inv-loop μ-loop = search needs in
+    let n = s .args .n in
+    sym (least-fails 6 (startFails n _ _) (n + 1) (l .loop .i) (l .loop .inv .1)
     (sym (c .before .start-fails .ensures) ∙ c .if1 .taken) (search needs))
 
 loop-again : tie.Need-loop-again Inv-loop μ-loop

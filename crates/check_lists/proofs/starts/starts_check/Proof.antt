@@ -16,9 +16,10 @@ cast-ends c = omega (arith, c .shared-slice-known3 .given (c .before .before .be
 
 returns-2 : tie.Need-returns-2
 returns-2 c =
-    let n = c .before .before .before .before .before .args .n in
-    let arcs = c .before .before .before .before .before .args .arcs in
-    let starts = c .before .before .before .before .before .args .starts .now in
+    let s : tie.Start = search needs in
+    let n = s .args .n in
+    let arcs = s .args .arcs in
+    let starts = s .args .starts .now in
     let ends = not (eqb (getD starts 0 0) 0) || not (eqb (getD starts n 0) arcs) in
     let fit = or-left ends _ (c .if1 .left) in
     sym (rise-passes n arcs starts (search needs)

@@ -13,7 +13,7 @@ add-byte-at c =
     omega (arith, c .before .digits-at .ensures .within, length-drop (s .args .at) (s .args .bytes .now))
 
 abbrev entry : tie.After-byte-at2 → tie.Start
-entry c = c .before .before .before .before
+entry c = search needs
 
 -- the tests of the code are those of the definition
 test : (c : tie.After-byte-at2)

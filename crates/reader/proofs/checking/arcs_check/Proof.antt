@@ -16,22 +16,28 @@ Inv-loop bytes at n ceiling arcs count line₀ before₀ i₀ line before i = Ch
 abbrev μ-loop : tie.MeasureT-loop
 μ-loop bytes at n ceiling arcs count line₀ before₀ i₀ line before i = count - i
 
+abbrev inside : tie.After-arc-line-at Inv-loop μ-loop → tie.In-loop Inv-loop μ-loop
+inside c = search needs
+
 returns : tie.Need-returns Inv-loop μ-loop
 returns c =
-    line-missing (c .before .before .before .before .loop .inv) (c .before .before .before .loop-test .taken)
-    (sym (c .before .before .arc-line-at .ensures) ∙ c .enum-told .given .1)
+    let a : tie.After-arc-line-at Inv-loop μ-loop = search needs in
+    line-missing (inside a .before .loop .inv) (inside a .loop-test .taken) (sym (a .arc-line-at .ensures) ∙ c .enum-told .given .1)
 
 -- the line was read
-abbrev turn : tie.After-arc-check Inv-loop μ-loop → tie.In-loop Inv-loop μ-loop
-turn c = c .before .before .before .before .before
-
 abbrev lines : tie.After-arc-check Inv-loop μ-loop → tie.After-tail Inv-loop μ-loop
-lines c = c .before .before
+lines c = search needs
+
+abbrev asked : tie.After-tail Inv-loop μ-loop → tie.After-arc-line-at Inv-loop μ-loop
+asked c = search needs
+
+abbrev turn : tie.After-arc-check Inv-loop μ-loop → tie.In-loop Inv-loop μ-loop
+turn c = inside (asked (lines c))
 
 arc-read : (c : tie.After-arc-check Inv-loop μ-loop)
     → arcLine (drop (turn c .before .loop .line) (turn c .before .before .before .args .bytes .now))
     ≡ ArcRead (lines c .tail .given .0 .0) (lines c .tail .given .0 .1 .0) (lines c .tail .given .0 .1 .1 .0) (lines c .tail .given .0 .1 .1 .1 .0)
-arc-read c = sym (c .before .before .before .before .arc-line-at .ensures) ∙ lines c .tail .given .1
+arc-read c = sym (asked (lines c) .arc-line-at .ensures) ∙ lines c .tail .given .1
 
 returns-2 : tie.Need-returns-2 Inv-loop μ-loop
 returns-2 c =

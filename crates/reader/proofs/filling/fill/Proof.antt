@@ -109,7 +109,7 @@ fill-spec =
     (tie.spec
     Inv-loop
     μ-loop
-    (λ c. progress-start (c .before .before .before .before .pre))
+    (λ c. let s : tie.Start Inv-loop μ-loop = search needs in progress-start (s .pre))
     (λ c κs. c .before .loop .inv .within)
     (λ c. search needs)
     (λ c. search needs)
