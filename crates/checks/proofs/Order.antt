@@ -80,9 +80,6 @@ all-passed (more e rest) = rw e (all-passed rest)
 pub first-passed : {check : Check} {checks : List Check} → AllPass (check ∷ checks) → check ≡ Passed
 first-passed (more e rest) = e
 
-pub rest-pass : {check : Check} {checks : List Check} → AllPass (check ∷ checks) → AllPass checks
-rest-pass (more e rest) = rest
-
 pub pass-parts : (first rest : List Check) → firstFault (first ++ rest) ≡ Passed
     → (firstFault first ≡ Passed) × (firstFault rest ≡ Passed)
 unfolding firstFault

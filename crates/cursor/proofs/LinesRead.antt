@@ -1,11 +1,11 @@
 -- The two kinds of line, from what the reading of a line gives back. Assumes nothing.
 use Prim.Native.Nat.{ℕ}
 use native.Mathlib.Omega.{arith}
-use mathlib.Core.Path.{_≡_, refl, sym, _∙_, ap}
+use mathlib.Core.Path.{_≡_, refl, sym, ap}
 use mathlib.Core.List.{List, [], _∷_}
 use lib.ListN.{getD}
 use Rattle.fields.specs.declared.LineRead.the-variants.{Missing, Taken}
-use Rattle.fields.specs.Fields.{Numbers, comma, lineEnds, line}
+use Rattle.fields.specs.Fields.{comma, lineEnds, line}
 use Rattle.fields.specs.Reading.{lineTaken, fieldsInto}
 use Rattle.fields.proofs.LineReading.{missing-line, line-read}
 use Rattle.cursor.specs.declared.ArcLine.the-variants.{NoArc, ArcRead}

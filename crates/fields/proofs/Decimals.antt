@@ -3,7 +3,7 @@ use mathlib.Core.Path.{_≡_, refl, sym, ap, _∙_}
 use mathlib.Core.Bool.{Bool, true, false}
 use mathlib.Core.Logic.{_⊎_, inl, inr}
 use mathlib.Core.List.{List, [], _∷_, _++_}
-use Prim.Native.Nat.{ℕ, zero, suc, _+_, _*_, _^_, _/_, _%_, _≤_, _<_}
+use Prim.Native.Nat.{ℕ, zero, suc, _+_, _^_, _/_, _%_, _≤_, _<_}
 use native.Mathlib.Nat.{pow-succ'}
 use native.Mathlib.Omega.{arith}
 use lib.Dec.{ltb}
@@ -64,12 +64,8 @@ digits-enough (suc places) value l = elim (by-digits value) [
       ∙ sym (by-tenth places value m)
 ]
 
--- a number of at most 20 digits has at least one
 pub decimal-most : (value : ℕ) → length (decimal value) ≤ 20
 decimal-most value = digits-most 19 value
-
-pub decimal-least : (value : ℕ) → 1 ≤ length (decimal value)
-decimal-least value = digits-least 19 value
 
 -- the digits of a word of 64 bits are those of its tenth and the last one
 pub decimal-tenth : (value : ℕ) → value < 2 ^ 64 → 10 ≤ value → decimal value ≡ decimal (value / 10) ++ ((48 + value % 10) ∷ [])

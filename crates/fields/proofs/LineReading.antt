@@ -1,11 +1,11 @@
 -- A line read field by field: what is known after i fields. Assumes nothing.
-use Prim.Native.Nat.{ℕ, zero, suc, _+_, _-_, _≤_, _<_}
+use Prim.Native.Nat.{ℕ, suc, _+_, _-_, _≤_, _<_}
 use native.Mathlib.Omega.{arith}
 use native.Mathlib.Numerals.{add-one}
-use mathlib.Core.Path.{_≡_, refl, sym, _∙_, ap, ap₂, subst}
-use mathlib.Core.List.{List, [], _∷_, _++_, append-nil}
+use mathlib.Core.Path.{_≡_, refl, sym, _∙_, ap, subst}
+use mathlib.Core.List.{List, [], _∷_, _++_}
 use lib.ListN.{length, getD, take, drop, set, replicate, length-set, take-append-drop, length-replicate, List·getD-append, getD-replicate}
-use lib.Seq.{drop-cons, drop-drop, take-suc-set, append-snoc, drop-set-lt, take-all, drop-length, getD-append-seam}
+use lib.Seq.{drop-cons, drop-drop, take-suc-set, append-snoc, drop-set-lt, drop-length, getD-append-seam}
 use Rattle.fields.specs.declared.Field.{Field}
 use Rattle.fields.specs.declared.Field.the-variants.{NoField, Value}
 use Rattle.fields.specs.declared.LineRead.{LineRead}

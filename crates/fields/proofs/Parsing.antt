@@ -1,17 +1,15 @@
 -- What was rendered is read back as it was: a number below 10^7, and a line of such numbers. Assumes nothing.
-use mathlib.Core.Path.{_≡_, refl, sym, ap, _∙_}
-use mathlib.Core.Bool.{Bool, true, false, cond, not, _&&_, _||_}
-use mathlib.Core.Logic.{_⊎_, inl, inr, _≢_}
+use mathlib.Core.Path.{_≡_, refl, ap}
+use mathlib.Core.Bool.{true, false}
+use mathlib.Core.Logic.{inl, inr}
 use mathlib.Core.List.{List, [], _∷_, _++_, append-assoc}
 use Prim.Native.Nat.{ℕ, zero, suc, _+_, _-_, _*_, _^_, _/_, _%_, _≤_, _<_}
-use native.Mathlib.Nat.{pow-succ'}
 use native.Mathlib.Omega.{arith}
-use lib.Dec.{ltb, leb, eqb}
 use lib.ListN.{length, getD, drop, replicate, length-append, length-replicate, List·getD-append}
 use lib.Seq.{getD-append-seam, drop-append-add}
 use borrow.Author.Tests.{le-leb, eq-eqb, ne-eqb}
 use Rattle.fields.specs.declared.Field.the-variants.{Value}
-use Rattle.fields.specs.Fields.{isDigit, digits, numberFrom, isField, byteAt, field, Line, Numbers, joined, fields}
+use Rattle.fields.specs.Fields.{isDigit, digits, numberFrom, isField, field, Numbers, fields}
 use Rattle.fields.specs.Fields.{lineFeed, lineEnds, line, decimalBy, decimal, renderFields, renderLine}
 use Rattle.fields.proofs.Decimals.{by-digits, one-digit, by-tenth, digits-least, tenth-length, tenth-below}
 

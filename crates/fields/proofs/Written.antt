@@ -3,11 +3,11 @@
 use mathlib.Core.Path.{_≡_, refl, sym, ap, subst, _∙_}
 use mathlib.Core.List.{List, [], _∷_, _++_, append-assoc, append-nil}
 use Prim.Native.Nat.{ℕ, suc, _+_, _≤_, _<_}
-use native.Mathlib.Nat.{add-zero, add-assoc}
+use native.Mathlib.Nat.{add-zero}
 use native.Mathlib.Numerals.{add-one}
 use native.Mathlib.Omega.{arith}
-use lib.ListN.{length, take, drop, set, length-append, length-take, length-drop, take-append-drop}
-use lib.Seq.{length-take-le, take-at, drop-at, drop-drop, drop-append-add, set-split, append-snoc}
+use lib.ListN.{length, take, drop, set, length-append, length-drop, take-append-drop}
+use lib.Seq.{length-take-le, take-at, drop-at, drop-drop, set-split, append-snoc}
 use Rattle.fields.specs.Writing.{written, Writes}
 
 module _ (at : ℕ) where
@@ -72,13 +72,6 @@ writes-nothing at buffer inside = record { told = sym (written-nothing at buffer
 
 pub writes-length : {at next : ℕ} {bytes before after : List ℕ} → Writes at bytes before after next → length after ≡ length before
 writes-length {at} {next} {bytes} {before} h = ap length (h .told) ∙ written-length at bytes before (h .fits)
-
--- What was written at the front of a buffer is read there.
-pub writes-front : {next : ℕ} {bytes before after : List ℕ} → Writes 0 bytes before after next → take next after ≡ bytes
-unfolding written
-writes-front {next} {bytes} {before} {after} h =
-    let last : next ≡ length bytes = omega arith in
-    rw (h .told, last) (take-at bytes _ (length bytes) refl)
 
 -- What is written lies within the buffer.
 pub writes-inside : {at next : ℕ} {bytes before after : List ℕ} → Writes at bytes before after next → next ≤ length after

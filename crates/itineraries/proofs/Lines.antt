@@ -4,9 +4,11 @@ use mathlib.Core.Logic.{inl, inr}
 use mathlib.Core.List.{List, [], _∷_, _++_, append-assoc, append-nil}
 use Prim.Native.Nat.{ℕ, zero, suc, _-_, _*_, _^_, _/_, _≤_, _<_}
 use native.Mathlib.Omega.{arith}
-use lib.ListN.{length, getD, take, drop, replicate, length-append}
+use lib.ListN.{length, getD, take, replicate, length-append}
 use lib.Seq.{length-take-le, getD-take, append-snoc, take-suc}
 use borrow.Author.Tests.{eq-eqb, ne-eqb}
+use Rattle.model.specs.declared.Check.the-variants.{Passed}
+use Rattle.model.specs.Answers.{wordsAfter}
 use Rattle.theory.specs.Maps.{none}
 use Rattle.theory.proofs.Cases.{same?}
 use Rattle.fields.specs.Fields.{comma, lineFeed, decimalBy, decimal, renderFields, renderLine}
@@ -123,7 +125,7 @@ module _ (v distance : ℕ) (nodes : List ℕ) where
   unfolding wordsIfReached
   unreached-words words e = rw (eq-eqb distance none e)
 
-  pub reached-words : (words : List ℕ) → (distance ≡ none → ⊥) → nodes ++ drop (length nodes) words ≡ wordsIfReached distance nodes words
+  pub reached-words : (words : List ℕ) → (distance ≡ none → ⊥) → wordsAfter Passed nodes words ≡ wordsIfReached distance nodes words
   unfolding wordsIfReached
   reached-words words q = rw (ne-eqb distance none q)
 

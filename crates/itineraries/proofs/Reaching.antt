@@ -2,32 +2,19 @@
 -- that are lent past those of the nodes do not matter. Assumes nothing.
 use Prim.Native.Nat.{ℕ, zero, suc, _-_, _≤_, _<_}
 use native.Mathlib.Omega.{arith}
-use mathlib.Core.Path.{_≡_, refl, sym, _∙_, ap}
-use mathlib.Core.List.{List, [], _∷_, _++_}
-use lib.ListN.{length, getD, length-append, List·getD-append}
-use Rattle.theory.specs.Maps.{none, Map, mapOf, headOf, Route, routeCost, SpelledRoute, distanceOf, Valid}
+use mathlib.Core.Path.{_≡_, sym, _∙_, ap}
+use mathlib.Core.List.{List, _++_}
+use lib.ListN.{length, getD, length-append}
+use Rattle.theory.specs.Maps.{none, Map, mapOf, Route, routeCost, SpelledRoute, distanceOf, Valid}
 use Rattle.theory.specs.Demands.{CheapestRoutes}
 use Rattle.theory.proofs.Maps.Arcs.{leaves-arc}
-use Rattle.theory.proofs.Maps.Routes.{spelled-route}
+use Rattle.theory.proofs.Lists.{getD-inside}
+use Rattle.theory.proofs.Maps.Routes.{spelled-route, spelled-past}
 use Rattle.walk.specs.Walk.{Nodes, nodesOf, nodesAlong}
 use Rattle.walk.proofs.Spelled.{along-length, spelled-walk, spelled-short}
 use Rattle.route.specs.Routes.{routeWalk, Served}
 use Rattle.route.proofs.Serving.{spelled-accepted, spelled-served}
 use Rattle.itineraries.specs.Itineraries.{nodesTo, Few, Routable}
-
--- A word that a list has does not depend on what stands for a missing one.
-pub getD-any : (words : List ℕ) (i a b : ℕ) → i < length words → getD words i a ≡ getD words i b
-getD-any [] i a b l = absurd (omega arith)
-getD-any (word ∷ words) zero a b l = refl
-getD-any (word ∷ words) (suc i) a b l = getD-any words i a b (omega arith)
-
--- What the parents of the nodes spell does not depend on the words past them.
-spelled-past : {M : Map} {C source : ℕ} → Valid M C source → (parents past : List ℕ) → length parents ≡ M .nodes
-    → {v : ℕ} {route : List ℕ} → SpelledRoute M source parents v route → SpelledRoute M source (parents ++ past) v route
-spelled-past valid parents past e SpelledRoute.here = SpelledRoute.here
-spelled-past {M} valid parents past e (SpelledRoute.on {t} r a h p q) =
-    SpelledRoute.on (spelled-past valid parents past e r) a h
-    (List·getD-append parents past none (headOf M a) (omega (arith, valid .heads-nodes a (leaves-arc valid a t h))) ∙ p) q
 
 -- The nodes of a route are nodes of the map.
 along-nodes : {M : Map} {C source : ℕ} → Valid M C source → {v w : ℕ} {route : List ℕ} → Route M v route w → v < M .nodes
@@ -45,7 +32,7 @@ module _ {n C source : ℕ} {starts heads costs : List ℕ} (valid : Valid (mapO
 
   module _ (v : ℕ) (node : v < n) (reached : getD distances v 0 ≡ none → ⊥) where
     spells : (route : List ℕ) × SpelledRoute M source parents v route × (routeCost M route ≡ distanceOf distances v)
-    spells = cheapest .spelled v node (λ e. reached (getD-any distances v 0 none (omega (arith, cheapest .distances-length)) ∙ e))
+    spells = cheapest .spelled v node (λ e. reached (getD-inside distances v 0 none (omega (arith, cheapest .distances-length)) ∙ e))
 
     walked : routeWalk n source starts heads parents v ≡ Nodes (nodesAlong M source (spells .0))
     walked = spelled-walk valid parents (spells .1) (n - 1) (omega (arith, spelled-short valid parents (spells .1)))

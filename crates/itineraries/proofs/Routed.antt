@@ -2,11 +2,12 @@
 use Prim.Native.Nat.{ℕ}
 use native.Mathlib.Omega.{arith}
 use mathlib.Core.Path.{_≡_, sym, _∙_, ap, subst}
-use mathlib.Core.List.{List, _++_}
+use mathlib.Core.List.{List}
 use lib.ListN.{length, take, drop}
 use lib.Seq.{take-at}
 use Rattle.model.specs.declared.Check.{Check}
 use Rattle.model.specs.declared.Check.the-variants.{Passed}
+use Rattle.model.specs.Answers.{wordsAfter}
 use Rattle.checks.specs.Checks.{firstFault}
 use Rattle.route.specs.declared.RouteAnswer.{RouteAnswer}
 use Rattle.route.specs.declared.RouteAnswer.the-variants.{Found, Refused}
@@ -23,7 +24,7 @@ module _ {n source : ℕ} {starts heads parents : List ℕ} {v : ℕ} {answer : 
       subst (λ (k : Check). RouteGiven k (routeWalk n source starts heads parents v) answer words words′)
       (ap (λ (k : ℕ). firstFault (routeChecks n source starts heads parents v k)) room ∙ R .accepted) P
 
-  pub found-list : words′ ≡ nodes ++ drop (length nodes) words
+  pub found-list : words′ ≡ wordsAfter Passed nodes words
   found-list = promised .list
 
   pub found-count : {count : ℕ} → answer ≡ Found count → count ≡ length nodes

@@ -8,13 +8,14 @@ use mathlib.Core.List.{List, []}
 use lib.Dec.{ltb}
 use lib.ListN.{length, getD}
 use Rattle.model.specs.declared.Check.the-variants.{Passed, Fault}
-use Rattle.theory.specs.Maps.{none, Map, Route, Reached, distanceOf, Valid}
+use Rattle.theory.specs.Maps.{none, Map, Reached, distanceOf}
 use Rattle.theory.specs.Heap.{Heap}
 use Rattle.theory.specs.Runs.{Inputs, ValidInputs, one, stepsOf}
 use Rattle.theory.specs.Demands.{CheapestRoutes}
 use Rattle.theory.proofs.Cases.{differ}
 use Rattle.theory.proofs.Demands.{run-demanded}
-use Rattle.theory.proofs.Maps.Arcs.{leaves-arc}
+use Rattle.theory.proofs.Lists.{getD-inside}
+use Rattle.theory.proofs.Maps.Routes.{route-node}
 use Rattle.route.specs.Routes.{Served}
 use Rattle.reader.specs.Checking.{planCheck}
 use Rattle.reader.specs.Plans.{planInputs}
@@ -22,7 +23,7 @@ use Rattle.reader.proofs.Runnable.{read-runnable}
 use Rattle.planning.specs.Planning.{mostBytes, planningCheck, planText}
 use Rattle.itineraries.specs.Itineraries.{routeLine, lineIfReached, runRoute, routesText, CheapestLine}
 use Rattle.itineraries.proofs.Lines.{unreached-line, reached-line}
-use Rattle.itineraries.proofs.Reaching.{getD-any, reached-served}
+use Rattle.itineraries.proofs.Reaching.{reached-served}
 
 passed-read : (bytes : List ℕ) → planningCheck bytes ≡ Passed → planCheck bytes 513 2048 2048 ≡ Passed
 unfolding planningCheck
@@ -36,11 +37,6 @@ passed-read bytes e = go (ltb mostBytes (length bytes)) e
 pub refused-same : (bytes : List ℕ) {number place : ℕ} → planningCheck bytes ≡ Fault number place → routesText bytes ≡ planText bytes
 unfolding routesText planText
 refused-same bytes e = rw e refl
-
--- A route from a node of the map ends at a node of the map.
-route-node : {M : Map} {C source : ℕ} → Valid M C source → {v w : ℕ} {route : List ℕ} → Route M v route w → v < M .nodes → w < M .nodes
-route-node valid Route.here l = l
-route-node valid (Route.along {v} a h r) l = route-node valid r (valid .heads-nodes a (leaves-arc valid a v h))
 
 module _ (bytes : List ℕ) (accepted : planningCheck bytes ≡ Passed) where
   abbrev I : Inputs
@@ -62,7 +58,7 @@ module _ (bytes : List ℕ) (accepted : planningCheck bytes ≡ Passed) where
   distance v = getD (run .search .distances) v 0
 
   same-distance : (v : ℕ) → v < M .nodes → distance v ≡ distanceOf (run .search .distances) v
-  same-distance v node = getD-any (run .search .distances) v 0 none (omega (arith, cheapest .distances-length))
+  same-distance v node = getD-inside (run .search .distances) v 0 none (omega (arith, cheapest .distances-length))
 
   module _ (v : ℕ) (reached : Reached M (I .source) v) where
     node : v < M .nodes

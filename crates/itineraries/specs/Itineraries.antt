@@ -5,7 +5,7 @@ use mathlib.Core.Bool.{cond}
 use mathlib.Core.Path.{_≡_}
 use mathlib.Core.List.{List, [], _∷_, _++_}
 use lib.Dec.{eqb}
-use lib.ListN.{length, getD, drop, replicate}
+use lib.ListN.{length, getD, replicate}
 use Rattle.model.specs.declared.Check.{Check}
 use Rattle.model.specs.declared.Check.the-variants.{Passed, Fault}
 use Rattle.model.specs.Answers.{wordsAfter}
@@ -63,7 +63,7 @@ routesText bytes = checkedRoutes (planningCheck bytes) (planHeader bytes) (planA
 -- The route list with the nodes of a route at its front; for a node that is not reached it stays (document 01, "Routes": words past the
 -- route are untouched).
 unfoldable pub wordsIfReached : (distance : ℕ) → (nodes words : List ℕ) → List ℕ
-wordsIfReached distance nodes words = cond (eqb distance none) words (nodes ++ drop (length nodes) words)
+wordsIfReached distance nodes words = cond (eqb distance none) words (wordsAfter Passed nodes words)
 
 -- The route list behind the routes of the first nodes, each written over those before it (document 01, "Routes").
 unfoldable pub routeFields : (count : ℕ) → (distances : List ℕ) → (routes : ℕ → List ℕ) → (words : List ℕ) → List ℕ

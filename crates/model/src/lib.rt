@@ -1,7 +1,7 @@
 // Node numbers and arc numbers, kept apart, and the answers of checks and runs (document 01, "What the planner holds and leaves out" and
 // "What a call returns").
 ghost use mathlib.Core.Path.{_≡_};
-ghost use Rattle.model.specs.Answers.{Numbers, numbersOf, acceptedNumbers, refusedNumbers};
+ghost use Rattle.model.specs.Answers.{numbersOf, acceptedNumbers, refusedNumbers};
 
 // A list of words is wrapped where it is read and unwrapped where it is stored: handing over an arc for a node does not compile.
 pub struct Node(pub u32);

@@ -7,7 +7,7 @@ use lib.ListN.{length}
 use Rattle.model.specs.declared.Check.{Check}
 use Rattle.model.specs.declared.Check.the-variants.{Fault}
 use Rattle.model.specs.declared.Node.{Node}
-use Rattle.theory.specs.Runs.{Inputs, one, two, Allowed}
+use Rattle.theory.specs.Runs.{one, two, Allowed}
 use Rattle.fields.specs.Writing.{Writes}
 use Rattle.fields.proofs.Written.{writes-inside}
 use Rattle.reader.specs.declared.PlanAnswer.{PlanAnswer}

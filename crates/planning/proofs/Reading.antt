@@ -7,7 +7,7 @@ use lib.ListN.{length}
 use borrow.Author.Tests.{lt-ltb, le-ltb}
 use Rattle.model.specs.declared.Check.the-variants.{Passed, Fault}
 use Rattle.model.specs.declared.Node.{Node}
-use Rattle.theory.specs.Runs.{Inputs, Levels, two, Allowed, fixedWords}
+use Rattle.theory.specs.Runs.{Inputs, Levels, Allowed, fixedWords}
 use Rattle.checks.specs.Checks.{firstFault, runChecks}
 use Rattle.reader.specs.declared.PlanAnswer.{PlanAnswer}
 use Rattle.reader.specs.declared.PlanAnswer.the-variants.{Read, Refused}

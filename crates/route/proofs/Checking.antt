@@ -1,15 +1,15 @@
 -- What the checks of a route show, and how they come together with the walk. Assumes nothing.
-use Prim.Native.Nat.{ℕ, suc, _+_, _-_, _≤_, _<_}
+use Prim.Native.Nat.{ℕ, _+_, _-_, _≤_, _<_}
 use native.Mathlib.Omega.{arith}
 use mathlib.Core.Bool.{Bool, true, false, cond, not, _&&_}
-use mathlib.Core.Path.{_≡_, refl, sym, _∙_, ap, ap₂}
+use mathlib.Core.Path.{_≡_, refl, sym, _∙_, ap}
 use mathlib.Core.List.{List, [], _∷_, _++_}
 use lib.Dec.{ltb, leb, eqb}
-use lib.ListN.{length, getD, drop, replicate, length-replicate, getD-replicate}
-use borrow.Author.Tests.{le-leb, lt-leb, leb-false, ltb-false}
+use lib.ListN.{length, getD, drop, replicate, length-replicate}
+use borrow.Author.Tests.{le-leb, lt-leb, leb-false}
 use Rattle.model.specs.declared.Check.{Check}
 use Rattle.model.specs.declared.Check.the-variants.{Passed, Fault}
-use Rattle.theory.specs.Maps.{mapOf, parentOf, Valid}
+use Rattle.theory.specs.Maps.{parentOf}
 use Rattle.theory.specs.Maps as maps
 use Rattle.theory.proofs.Cases.{differ}
 use Rattle.theory.proofs.Lists.{getD-inside, getD-replicate-same}
@@ -17,12 +17,11 @@ use Rattle.check_numbers.specs.Numbers.{faultIf}
 use Rattle.check_lists.proofs.Words.{costs-pass}
 use Rattle.theory.specs.Runs.{inputs}
 use Rattle.checks.specs.Checks.{firstFault, sizeChecks, mapChecks}
-use Rattle.checks.proofs.Order.{Made, AllPass, none, more, passed-all, all-passed, first-passed, rest-pass, pass-parts, stopped, gone-on}
-use Rattle.checks.proofs.Sizes.{passed-range, passed-source, passed-heads, ceiling-passes, arcs-pass, passed-starts, passed-lent}
+use Rattle.checks.proofs.Order.{AllPass, none, more, passed-all, all-passed, stopped, gone-on}
+use Rattle.checks.proofs.Sizes.{passed-range, passed-heads, ceiling-passes, arcs-pass, passed-starts, passed-lent}
 use Rattle.checks.proofs.Valid.{passed-valid}
-use Rattle.walk.specs.declared.Walked.{Walked}
-use Rattle.walk.specs.declared.Walked.the-variants.{Lost, NoRoom, Arrived}
-use Rattle.walk.specs.Walk.{Walk, NoWalk, Nodes, nodesOf, Table, walkedOf, walkedWords}
+use Rattle.walk.specs.declared.Walked.the-variants.{NoRoom, Arrived}
+use Rattle.walk.specs.Walk.{Walk, NoWalk, Nodes, Table, walkedOf, walkedWords}
 use Rattle.route.specs.declared.RouteAnswer.{RouteAnswer}
 use Rattle.route.specs.Routes.{routeWalk, tableSizeChecks, tableChecks, destinationCheck, parentCheck, walkCheck, roomCheck, routeChecks, routeNumbersOf, RouteGiven, RoutePromised, walkedNumbers}
 

@@ -1,6 +1,6 @@
 -- For every accepted run and every node that it reaches, the route by the run's parents is a route of the map, costs the distance, and is
 -- accepted where the list has room. Assumes nothing.
-use Prim.Native.Nat.{ℕ, _+_, _-_, _≤_, _<_}
+use Prim.Native.Nat.{ℕ, _-_, _≤_}
 use native.Mathlib.Omega.{arith}
 use mathlib.Core.Path.{_≡_, refl, sym, _∙_, ap, subst}
 use mathlib.Core.Logic.{_≢_, inl, inr}
@@ -10,12 +10,12 @@ use borrow.Author.Tests.{lt-leb, le-ltb, eq-eqb, ne-eqb}
 use Rattle.model.specs.declared.Check.{Check}
 use Rattle.model.specs.declared.Check.the-variants.{Passed}
 use Rattle.model.specs.declared.RunAnswer.{RunAnswer}
-use Rattle.theory.specs.Maps.{Map, mapOf, headOf, Route, routeCost, Reached, SpelledRoute, parentOf, distanceOf, Valid}
+use Rattle.theory.specs.Maps.{Map, mapOf, routeCost, Reached, SpelledRoute, parentOf, distanceOf, Valid}
 use Rattle.theory.specs.Maps as maps
 use Rattle.theory.specs.Demands.{CheapestRoutes}
 use Rattle.theory.proofs.Cases.{same?}
 use Rattle.theory.proofs.Maps.Arcs.{leaves-arc}
-use Rattle.theory.proofs.Maps.Routes.{spelled-route}
+use Rattle.theory.proofs.Maps.Routes.{spelled-route, route-node, spelled-past}
 use Rattle.check_numbers.specs.Numbers.{faultIf, headCountCheck}
 use Rattle.theory.specs.Runs.{Inputs, inputs, Levels, stepsOf}
 use Rattle.checks.specs.Checks.{firstFault, sizeChecks, mapChecks, runChecks}
@@ -83,17 +83,6 @@ module _ {n C source : ℕ} {starts heads costs : List ℕ} (valid : Valid (mapO
 
 -- ---- the parents of a run
 
--- What the parents of the nodes spell does not depend on the words past them.
-spelled-same : {M : Map} {C source : ℕ} → Valid M C source → (parents parents′ : List ℕ) → ((w : ℕ) → w < M .nodes → parentOf parents′ w ≡ parentOf parents w)
-    → {v : ℕ} {route : List ℕ} → SpelledRoute M source parents v route → SpelledRoute M source parents′ v route
-spelled-same valid parents parents′ same SpelledRoute.here = SpelledRoute.here
-spelled-same {M} valid parents parents′ same (SpelledRoute.on {t} r a h p q) =
-    SpelledRoute.on (spelled-same valid parents parents′ same r) a h (same (headOf M a) (valid .heads-nodes a (leaves-arc valid a t h)) ∙ p) q
-
-route-node : {M : Map} {C source : ℕ} → Valid M C source → {v w : ℕ} {route : List ℕ} → Route M v route w → v < M .nodes → w < M .nodes
-route-node valid Route.here l = l
-route-node {M} valid (Route.along {v} a h r) l = route-node valid r (valid .heads-nodes a (leaves-arc valid a v h))
-
 module _ {n C source : ℕ} {starts heads costs : List ℕ} (valid : Valid (mapOf n starts heads costs) C source) {distances parents : List ℕ}
     (cheapest : CheapestRoutes (mapOf n starts heads costs) source distances parents) where
   pub cheapest-served : (distances′ parents′ : List ℕ) (destination : ℕ) → Reached (mapOf n starts heads costs) source destination
@@ -105,8 +94,7 @@ module _ {n C source : ℕ} {starts heads costs : List ℕ} (valid : Valid (mapO
       let same : distanceOf (distances ++ distances′) destination ≡ distanceOf distances destination =
       List·getD-append distances distances′ maps.none destination (omega (arith, cheapest .distances-length)) in
       spelled-served valid (parents ++ parents′) (omega (arith, length-append parents parents′, cheapest .parents-length)) (distances ++ distances′)
-      (spelled-same valid parents (parents ++ parents′)
-      (λ w l. List·getD-append parents parents′ maps.none w (omega (arith, cheapest .parents-length))) (s .1)) (s .2 ∙ sym same)
+      (spelled-past valid parents parents′ (cheapest .parents-length) (s .1)) (s .2 ∙ sym same)
 
 module _ (L : Levels) (I : Inputs) (l l′ : Lent) {r : RunAnswer} where
   pub run-served : firstFault (runChecks L I (lengthsOf l)) ≡ Passed → Promised L I r l l′ → (destination : ℕ) → Reached (I .map) (I .source) destination

@@ -2,9 +2,9 @@
 use Prim.Native.Nat.{ℕ, _+_, _-_, _*_, _≤_, _<_}
 use native.Mathlib.Omega.{arith}
 use native.Mathlib.Nat.{mul-le-mul, mul-le-mul-left}
-use mathlib.Core.Path.{_≡_, refl, sym, _∙_, ap, ap₂}
-use mathlib.Core.List.{List, _++_}
-use lib.ListN.{length, take, drop, replicate, length-replicate}
+use mathlib.Core.Path.{_≡_, refl, sym, _∙_, ap₂}
+use mathlib.Core.List.{List}
+use lib.ListN.{length, take}
 use lib.Seq.{length-take-le}
 use Rattle.model.specs.declared.Check.{Check}
 use Rattle.model.specs.declared.Check.the-variants.{Passed, Fault}
@@ -19,9 +19,11 @@ use Rattle.state.specs.declared.State.{State}
 use Rattle.state.proofs.Tallies.{same-insertions, same-decreases, same-shifts}
 use Rattle.state.specs.Stands.{Setting}
 use Rattle.search.specs.Starts.{Starts}
-use Rattle.theory.specs.Runs.{Inputs, ValidInputs, Levels, one, two, Allowed, heapBuckets, segmentCount, removalLooks, workWords, stepsOf}
-use Rattle.checks.specs.Checks.{Ready}
-use Rattle.runs.specs.Promise.{Lent, Ran, lengthsOf}
+use Rattle.theory.specs.Runs.{Inputs, ValidInputs, Levels, heapBuckets, segmentCount, removalLooks, workWords, stepsOf}
+use Rattle.checks.specs.Checks.{firstFault, runChecks, Ready}
+use Rattle.checks.proofs.Valid.{passed-ready}
+use Rattle.sizes.specs.Sizes.{sizesOf}
+use Rattle.runs.specs.Promise.{Lent, Ran, lengthsOf, Promised}
 use Rattle.runs.specs.Parts.{countsTold, Built, RunsOn, SomeRunsOn, Ended}
 use Rattle.runs.proofs.Settings.{layoutOf, few-buckets, setting, buckets-two, slots-few, top-same, work-fits}
 
@@ -48,7 +50,7 @@ module _ {L : Levels} {I : Inputs} (l : Lent) (ready : Ready L I (lengthsOf l)) 
       distances = E .distances;
       parents = E .parents;
       roster = record { order = stepsOf L I .search .roster; count = refl; each-once = D .counts .roster; filled = E .roster };
-      work = E .work ∙ ap (λ (k : ℕ). replicate (workWords L (I .map .nodes)) 0 ++ drop k (l .work)) (sym (length-replicate (workWords L (I .map .nodes)) 0));
+      work = E .work;
       demanded = D;
     }
 
@@ -91,6 +93,15 @@ module _ {L : Levels} {I : Inputs} {B K needed : ℕ} {sizes : List ℕ} (l : Le
   unfolding stepsOf
   built-ended left =
       (rw (built .buckets-are, built .segments-are, built .sizes-are, built .needed-are) at left) (setting (built .ready)) (runs-on l (built .ready))
+
+-- The checks have come to `check`, and the numbers and sizes were computed from the inputs.
+module _ {L : Levels} {I : Inputs} {l : Lent} {check : Check} {B : ℕ} {sizes : List ℕ} (is : check ≡ firstFault (runChecks L I (lengthsOf l))) (passed : check ≡ Passed)
+    (buckets : B ≡ heapBuckets L (I .ceiling)) (computed : sizes ≡ sizesOf L) where
+  pub passed-built : Built L I B (segmentCount L) sizes (workWords L (I .map .nodes)) l
+  passed-built = record { ready = passed-ready (sym is ∙ passed); buckets-are = buckets; segments-are = refl; sizes-are = computed; needed-are = refl }
+
+  pub passed-ran : {r : RunAnswer} {l′ : Lent} → (Built L I B (segmentCount L) sizes (workWords L (I .map .nodes)) l → Ran L I Passed r l l′) → Promised L I r l l′
+  passed-ran ran = rw (sym is ∙ passed) (ran passed-built)
 
 -- A refusal leaves every list as it was.
 pub refused-ran : {L : Levels} {I : Inputs} {check : Check} {number place : ℕ} {r : RunAnswer} {l : Lent} → check ≡ Fault number place

@@ -1,15 +1,12 @@
 -- The settings of both runs, and the room that their work words give.
-use Prim.Native.Nat.{ℕ, _+_, _-_, _*_, _^_, _≤_, _<_, max}
+use Prim.Native.Nat.{ℕ, _+_, _-_, _*_, _^_, _≤_, max}
 use native.Mathlib.Omega.{arith}
 use native.Mathlib.Nat.{mul-le-mul-right, pow-le-pow-left}
-use mathlib.Core.Path.{_≡_, refl, sym, _∙_, ap}
-use mathlib.Core.Logic.{_⊎_, inl, inr}
-use mathlib.Core.List.{List}
-use lib.ListN.{length, take}
-use lib.Seq.{length-take-le}
+use mathlib.Core.Path.{_≡_, refl}
+use mathlib.Core.Logic.{inl, inr}
 use Rattle.theory.specs.Maps.{arcs}
 use Rattle.theory.specs.Network.{network}
-use Rattle.theory.specs.Shape.{ceilLog, oneLevelBuckets, twoLevelBuckets, oneLevel, twoLevel}
+use Rattle.theory.specs.Shape.{ceilLog, oneLevelBuckets, twoLevelBuckets}
 use Rattle.theory.proofs.Cases.{split}
 use Rattle.theory.proofs.Maps.Arcs.{map-admissible}
 use Rattle.theory.proofs.Shapes.Logarithm.{ceilLog-least, ceilLog-most, one-level-most, two-level-most}
@@ -18,7 +15,7 @@ use Rattle.theory.proofs.Demands.{mostSegmentLooks, lawful, top-is, allowed-seg
 use Rattle.bounds.specs.Words.{Agrees}
 use Rattle.sizes.specs.Sizes.{sizesOf}
 use Rattle.sizes.proofs.Shapes.{one-agrees, two-agrees}
-use Rattle.buckets.specs.Words.{WordsFit, owned}
+use Rattle.buckets.specs.Words.{WordsFit}
 use Rattle.buckets.specs.Words.Laws.{bucket-count, count-words, no-count-words}
 use Rattle.state.specs.declared.Layout.{Layout}
 use Rattle.state.specs.Stands.{Setting}

@@ -1,13 +1,13 @@
 -- A run on the words that it fills of each lent list.
 use Prim.Native.Nat.{ℕ, _+_, _≤_}
 use mathlib.Core.Path.{_≡_}
-use mathlib.Core.List.{List, _++_}
-use lib.ListN.{length, take, drop, replicate}
+use mathlib.Core.List.{List}
+use lib.ListN.{length, take, replicate}
 use Rattle.model.specs.declared.Check.the-variants.{Passed}
 use Rattle.model.specs.declared.Counts.{Counts}
 use Rattle.model.specs.Answers.{wordsAfter}
 use Rattle.theory.specs.Maps.{Map, mapOf}
-use Rattle.theory.specs.Heap.{Heap, heap}
+use Rattle.theory.specs.Heap.{Heap}
 use Rattle.state.specs.declared.Layout.{Layout}
 use Rattle.state.specs.declared.Tally.{Tally}
 use Rattle.state.specs.declared.State.{State}
@@ -51,7 +51,7 @@ pub record Ended (h : Heap) (needed : ℕ) (l l′ : Lent) (s : State) : Type 0 
   pub distances : l′ .distances ≡ wordsAfter Passed (h .search .distances) (l .distances)
   pub parents : l′ .parents ≡ wordsAfter Passed (h .search .parents) (l .parents)
   pub roster : l′ .roster ≡ wordsAfter Passed (h .search .roster) (l .roster)
-  pub work : l′ .work ≡ replicate needed 0 ++ drop needed (l .work)
+  pub work : l′ .work ≡ wordsAfter Passed (replicate needed 0) (l .work)
   pub reached : s .reached ≡ length (h .search .roster)
   pub tally : s .tally ≡ countsOf h
 

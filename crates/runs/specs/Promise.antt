@@ -1,8 +1,8 @@
 -- What the entry points promise for every input (document 01, "What the planner holds and leaves out" and "What a call returns").
 use Prim.Native.Nat.{ℕ}
 use mathlib.Core.Path.{_≡_}
-use mathlib.Core.List.{List, _++_}
-use lib.ListN.{length, drop, replicate}
+use mathlib.Core.List.{List}
+use lib.ListN.{length, replicate}
 use Rattle.model.specs.declared.Check.{Check}
 use Rattle.model.specs.declared.Check.the-variants.{Passed, Fault}
 use Rattle.model.specs.declared.Counts.{Counts}
@@ -30,7 +30,7 @@ pub record RosterFilled (M : Map) (source : ℕ) (h : Heap) (words words′ : Li
   pub order : List ℕ
   pub count : length order ≡ length (h .search .roster)
   pub each-once : Roster (Reached M source) (h .search .distances) order
-  pub filled : words′ ≡ order ++ drop (length order) words
+  pub filled : words′ ≡ wordsAfter Passed order words
 
 -- The roster afterwards (document 01, "What a call returns").
 abbrev pub RosterAfter : Check → (M : Map) → (source : ℕ) → (h : Heap) → (words words′ : List ℕ) → Type 0

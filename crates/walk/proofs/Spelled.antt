@@ -4,7 +4,7 @@ use Prim.Native.Nat.{ℕ, zero, suc, _+_, _-_, _≤_, _<_}
 use native.Mathlib.Omega.{arith}
 use native.Mathlib.Numerals.{add-one}
 use mathlib.Core.Path.{_≡_, refl, sym, _∙_, ap, subst}
-use mathlib.Core.Bool.{Bool, true, false, cond}
+use mathlib.Core.Bool.{Bool, true, false}
 use mathlib.Core.Logic.{_≢_, inl, inr, ⊎-elim}
 use mathlib.Core.List.{List, [], _∷_, _++_, List·Memᴰ, List·Memᴰ·not-nil, List·Memᴰ·eq-of-singleton}
 use lib.ListN.{length, getD, length-append}
@@ -15,7 +15,7 @@ use Rattle.theory.proofs.Cases.{same?, differ}
 use Rattle.theory.proofs.Lists.{mem-snoc, distinct-snoc}
 use Rattle.theory.proofs.Maps.Arcs.{leaves-arc, leaves-once}
 use Rattle.theory.proofs.Maps.Routes.{spelled-once}
-use Rattle.walk.specs.Walk.{tailOf, leadsTo, Walk, NoWalk, Nodes, extended, walkBack, LeavesBy, nodesAlong}
+use Rattle.walk.specs.Walk.{tailOf, leadsTo, Walk, NoWalk, Nodes, extended, walkBack, nodesAlong}
 use Rattle.walk.proofs.Tails.{tail-leaves}
 use Rattle.walk.proofs.Walking.{back-source, back-stops, back-misfit, back-on, leads-arc, leads-head}
 use Rattle.walk.proofs.Distinct.{distinct-few}

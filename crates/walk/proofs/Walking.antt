@@ -10,7 +10,7 @@ use lib.Dec.{ltb, eqb}
 use lib.ListN.{length, getD, set, drop, replicate, length-append}
 use lib.Seq.{drop-cons, set-append-seam, append-snoc}
 use borrow.Author.Tests.{lt-ltb, le-ltb, ltb-true, ltb-false, eqb-true, eq-eqb, ne-eqb}
-use Rattle.theory.specs.Maps.{none, Map, mapOf, parentOf, Leaves, Valid}
+use Rattle.theory.specs.Maps.{none, Map, mapOf, parentOf, Leaves}
 use Rattle.theory.proofs.Cases.{differ}
 use Rattle.theory.proofs.Lists.{getD-inside}
 use Rattle.theory.proofs.Maps.Arcs.{leaves-node, leaves-once}

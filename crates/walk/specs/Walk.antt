@@ -4,7 +4,9 @@ use mathlib.Core.Bool.{Bool, cond, _&&_}
 use mathlib.Core.Path.{_≡_}
 use mathlib.Core.List.{List, [], _∷_, _++_}
 use lib.Dec.{ltb, eqb}
-use lib.ListN.{length, getD, set, drop, replicate}
+use lib.ListN.{length, getD, set, replicate}
+use Rattle.model.specs.declared.Check.the-variants.{Passed}
+use Rattle.model.specs.Answers.{wordsAfter}
 use Rattle.theory.specs.Maps.{Map, mapOf, headOf, parentOf, Valid}
 use Rattle.walk.specs.declared.Walked.{Walked}
 use Rattle.walk.specs.declared.Walked.the-variants.{Lost, NoRoom, Arrived}
@@ -90,7 +92,7 @@ walkedOf room behind (Nodes nodes) = cond (ltb room (length nodes + behind)) NoR
 -- The route list behind the walk: the nodes from the source on, if there is room for all (document 01, "Routes").
 unfoldable pub walkedWords : (behind : ℕ) → Walk → (words : List ℕ) → List ℕ
 walkedWords behind NoWalk words = words
-walkedWords behind (Nodes nodes) words = cond (ltb (length words) (length nodes + behind)) words (nodes ++ drop (length nodes) words)
+walkedWords behind (Nodes nodes) words = cond (ltb (length words) (length nodes + behind)) words (wordsAfter Passed nodes words)
 
 -- The list has a word behind those that the walk has written (document 01, "Routes").
 abbrev pub HasRoom : (words : List ℕ) → Walked → Type 0

@@ -1,9 +1,8 @@
 -- `report::write_nodes` meets its contract: the lines of the first v nodes are written. Assumes nothing.
 use mathlib.Core.Path.{_≡_}
-use Prim.Native.Nat.{ℕ, _+_, _*_, _-_, _≤_, _<_}
+use Prim.Native.Nat.{_-_, _≤_}
 use native.Mathlib.Numerals.{add-one}
 use native.Mathlib.Omega.{arith}
-use lib.ListN.{length}
 use borrow.Author.Needs.{needs}
 use Rattle.fields.specs.Writing.{Writes}
 use Rattle.fields.proofs.Written.{writes-nothing, writes-then, writes-same, writes-length}

@@ -1,5 +1,5 @@
 -- `runs::run_on` meets its contract.
-use mathlib.Core.Path.{_≡_, refl, sym, _∙_}
+use mathlib.Core.Path.{sym, _∙_}
 use lib.Seq.{length-take-le}
 use Rattle.runs.proofs.Fronts.{front-filled, lent-length, front-cleared}
 use borrow.Author.Needs.{needs}

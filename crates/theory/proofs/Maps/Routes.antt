@@ -5,8 +5,8 @@ use mathlib.Core.Logic.{_≢_}
 use mathlib.Core.List.{List, [], _∷_, _++_}
 use native.Mathlib.Omega.{arith}
 use native.Mathlib.Nat.{add-zero}
-use lib.ListN.{length}
-use Rattle.theory.specs.Maps.{Map, headOf, costOf, Leaves, Route, routeCost, SpelledRoute, parentOf, Valid}
+use lib.ListN.{length, List·getD-append}
+use Rattle.theory.specs.Maps.{none, Map, headOf, costOf, Leaves, Route, routeCost, SpelledRoute, parentOf, Valid}
 use Rattle.theory.specs.Network.{Link, network, Path, SpelledPath}
 use Rattle.theory.proofs.Lists.{inside}
 use Rattle.theory.proofs.Maps.Arcs.{linkOf, out-leaves, leaves-out, leaves-arc, leaves-once}
@@ -45,6 +45,19 @@ route-path {M} {v} source c (Route.along {route} a h r) p =
 pub spelled-route : {M : Map} {source v : ℕ} {parents route : List ℕ} → SpelledRoute M source parents v route → Route M source route v
 spelled-route SpelledRoute.here = Route.here
 spelled-route (SpelledRoute.on r a h e n) = route-snoc a (spelled-route r) h
+
+-- A route from a node of the map ends at a node of the map.
+pub route-node : {M : Map} {C source : ℕ} → Valid M C source → {v w : ℕ} {route : List ℕ} → Route M v route w → v < M .nodes → w < M .nodes
+route-node valid Route.here l = l
+route-node valid (Route.along {v} a h r) l = route-node valid r (valid .heads-nodes a (leaves-arc valid a v h))
+
+-- What the parents of the nodes spell does not depend on the words past them.
+pub spelled-past : {M : Map} {C source : ℕ} → Valid M C source → (parents past : List ℕ) → length parents ≡ M .nodes
+    → {v : ℕ} {route : List ℕ} → SpelledRoute M source parents v route → SpelledRoute M source (parents ++ past) v route
+spelled-past valid parents past e SpelledRoute.here = SpelledRoute.here
+spelled-past {M} valid parents past e (SpelledRoute.on {t} r a h p q) =
+    SpelledRoute.on (spelled-past valid parents past e r) a h
+    (List·getD-append parents past none (headOf M a) (omega (arith, valid .heads-nodes a (leaves-arc valid a t h))) ∙ p) q
 
 pub spelled-path-route : {M : Map} {source v c : ℕ} {parents : List ℕ} → SpelledPath (network M source) parents v c
     → (route : List ℕ) × SpelledRoute M source parents v route × (routeCost M route ≡ c)

@@ -1,5 +1,4 @@
 -- `walk::arrive` meets its contract. Assumes nothing.
-use mathlib.Core.Path.{refl}
 use borrow.Author.Needs.{needs}
 use Rattle.walk.proofs.Walking.{source-written, no-room}
 use Rattle.walk.proofs.arrive.Statement.{statement}
