@@ -1,5 +1,4 @@
 -- `itineraries::answer_in` meets its contract. Assumes nothing.
-use native.Mathlib.Omega.{arith}
 use borrow.Author.Needs.{needs}
 use Rattle.itineraries.proofs.Answering.{too-long, read-refused, one-read, map-listed}
 use Rattle.itineraries.proofs.answer_in.Statement.{statement}
@@ -15,9 +14,6 @@ short c = search needs
 abbrev map-read : tie.After-nodes → tie.After-read
 map-read c = search needs
 
-abbrev found-before : tie.After-list-map → tie.After-nodes
-found-before c = search needs
-
 returns : tie.Need-returns
 returns c =
     let long : tie.Then1 = search needs in
@@ -31,18 +27,6 @@ list-map-requires c κs =
     let lends = start (short r) .pre in
     (one-read (short r .if1 .left) (lends .lists) (r .read .ensures) (found .nodes .given .1), (lends .route-words, lends .output-bytes))
 
-same-length-2 : tie.Need-same-length-2
-same-length-2 c = let r : tie.After-read = search needs in omega (arith, r .read .kept)
-
-same-length-3 : tie.Need-same-length-3
-same-length-3 c = let r : tie.After-read = search needs in omega (arith, r .read .kept)
-
-same-length-4 : tie.Need-same-length-4
-same-length-4 c = let r : tie.After-read = search needs in omega (arith, r .read .kept)
-
-same-length-5 : tie.Need-same-length-5
-same-length-5 c = let told : tie.After-write-refusal2 = search needs in omega (arith, told .write-refusal2 .kept)
-
 returns-2 : tie.Need-returns-2
 returns-2 c =
     let told : tie.After-write-refusal2 = search needs in
@@ -50,37 +34,10 @@ returns-2 c =
     let r : tie.After-read = search needs in
     read-refused (short r .if1 .left) (start (short r) .pre .lists) (r .read .ensures) (fault .number .given .1) (told .write-refusal2 .ensures)
 
-same-length-6 : tie.Need-same-length-6
-same-length-6 c = let listed : tie.After-list-map = search needs in omega (arith, map-read (found-before listed) .read .kept)
-
-same-length-7 : tie.Need-same-length-7
-same-length-7 c = let listed : tie.After-list-map = search needs in omega (arith, map-read (found-before listed) .read .kept)
-
-same-length-8 : tie.Need-same-length-8
-same-length-8 c = let listed : tie.After-list-map = search needs in omega (arith, map-read (found-before listed) .read .kept)
-
-same-length-9 : tie.Need-same-length-9
-same-length-9 c = let listed : tie.After-list-map = search needs in omega (arith, listed .list-map .kept)
-
-same-length-10 : tie.Need-same-length-10
-same-length-10 c = let listed : tie.After-list-map = search needs in omega (arith, listed .list-map .kept)
-
-same-length-11 : tie.Need-same-length-11
-same-length-11 c = let listed : tie.After-list-map = search needs in omega (arith, listed .list-map .kept)
-
-same-length-12 : tie.Need-same-length-12
-same-length-12 c = let listed : tie.After-list-map = search needs in omega (arith, listed .list-map .kept)
-
-same-length-13 : tie.Need-same-length-13
-same-length-13 c = let listed : tie.After-list-map = search needs in omega (arith, listed .list-map .kept)
-
-same-length-14 : tie.Need-same-length-14
-same-length-14 c = let listed : tie.After-list-map = search needs in omega (arith, listed .list-map .kept)
-
 returns-3 : tie.Need-returns-3
 returns-3 c =
     let listed : tie.After-list-map = search needs in
-    let found = found-before listed in
+    let found : tie.After-nodes = search needs in
     let r = map-read found in
     map-listed (short r .if1 .left) (start (short r) .pre .lists) (r .read .ensures) (found .nodes .given .1) (listed .list-map .ensures)
 
@@ -96,18 +53,18 @@ answer-in-spec =
     (λ c κs. search needs)
     (λ c. search needs)
     list-map-requires
-    same-length-2
-    same-length-3
-    same-length-4
-    same-length-5
+    (λ c. search needs)
+    (λ c. search needs)
+    (λ c. search needs)
+    (λ c. search needs)
     returns-2
-    same-length-6
-    same-length-7
-    same-length-8
-    same-length-9
-    same-length-10
-    same-length-11
-    same-length-12
-    same-length-13
-    same-length-14
+    (λ c. search needs)
+    (λ c. search needs)
+    (λ c. search needs)
+    (λ c. search needs)
+    (λ c. search needs)
+    (λ c. search needs)
+    (λ c. search needs)
+    (λ c. search needs)
+    (λ c. search needs)
     returns-3)

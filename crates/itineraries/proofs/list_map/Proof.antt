@@ -29,24 +29,6 @@ write-routes-requires c κs =
     let p = start run .pre in
     (omega (arith, p .0 .nodes-fit, p .1 .1), (p .1 .0, run-routable (p .0) _ (run .one-level .ensures)))
 
-same-length : tie.Need-same-length
-same-length c = let run : tie.After-one-level = search needs in omega (arith, run .one-level .kept)
-
-same-length-2 : tie.Need-same-length-2
-same-length-2 c = let run : tie.After-one-level = search needs in omega (arith, run .one-level .kept)
-
-same-length-3 : tie.Need-same-length-3
-same-length-3 c = let run : tie.After-one-level = search needs in omega (arith, run .one-level .kept)
-
-same-length-4 : tie.Need-same-length-4
-same-length-4 c = let run : tie.After-one-level = search needs in omega (arith, run .one-level .kept)
-
-same-length-5 : tie.Need-same-length-5
-same-length-5 c = let lines : tie.After-write-routes = search needs in omega (arith, lines .write-routes .kept)
-
-same-length-6 : tie.Need-same-length-6
-same-length-6 c = let lines : tie.After-write-routes = search needs in omega (arith, lines .write-routes .kept)
-
 returns : tie.Need-returns
 returns c =
     let lines : tie.After-write-routes = search needs in
@@ -63,10 +45,10 @@ list-map-spec =
     slice-aggregate-map-costs
     (λ c κs. search needs)
     write-routes-requires
-    same-length
-    same-length-2
-    same-length-3
-    same-length-4
-    same-length-5
-    same-length-6
+    (λ c. search needs)
+    (λ c. search needs)
+    (λ c. search needs)
+    (λ c. search needs)
+    (λ c. search needs)
+    (λ c. search needs)
     returns)

@@ -37,18 +37,6 @@ write-runs-requires c κs =
       ),
     )
 
-same-length : tie.Need-same-length
-same-length c = let two : tie.After-two-level = search needs in omega (arith, two .two-level .kept, one-of two .one-level .kept)
-
-same-length-2 : tie.Need-same-length-2
-same-length-2 c = let two : tie.After-two-level = search needs in omega (arith, two .two-level .kept, one-of two .one-level .kept)
-
-same-length-3 : tie.Need-same-length-3
-same-length-3 c = let two : tie.After-two-level = search needs in omega (arith, two .two-level .kept, one-of two .one-level .kept)
-
-same-length-4 : tie.Need-same-length-4
-same-length-4 c = let two : tie.After-two-level = search needs in omega (arith, two .two-level .kept, one-of two .one-level .kept)
-
 returns : tie.Need-returns
 returns c =
     let r : tie.After-two-level = search needs in
@@ -75,9 +63,9 @@ plan-map-spec =
     (λ c κs. search needs)
     (λ c κs. search needs)
     write-runs-requires
-    same-length
-    same-length-2
-    same-length-3
-    same-length-4
+    (λ c. let two : tie.After-two-level = search needs in omega (arith, two .two-level .kept, one-of two .one-level .kept))
+    (λ c. let two : tie.After-two-level = search needs in omega (arith, two .two-level .kept, one-of two .one-level .kept))
+    (λ c. let two : tie.After-two-level = search needs in omega (arith, two .two-level .kept, one-of two .one-level .kept))
+    (λ c. let two : tie.After-two-level = search needs in omega (arith, two .two-level .kept, one-of two .one-level .kept))
     (λ c. search needs)
     returns)

@@ -1,4 +1,5 @@
 -- `runs::run_on` meets its contract.
+use native.Mathlib.Omega.{arith}
 use mathlib.Core.Path.{sym, _∙_}
 use lib.Seq.{length-take-le}
 use Rattle.runs.proofs.Fronts.{front-filled, lent-length, front-cleared}
@@ -43,7 +44,7 @@ run-on-spec =
     (λ c. search needs)
     (λ c. search needs)
     (λ c κs. search needs)
-    (λ c. search needs)
+    (λ c. let left : tie.After-run = search needs in omega (arith, left .run .kept, start left .pre .runs-on .work-fit))
     slice-aggregate-fill
     (λ c κs. search needs)
     (λ c. search needs)

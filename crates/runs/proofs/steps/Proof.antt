@@ -9,24 +9,6 @@ use Rattle.runs.proofs.steps.Tie as tie
 abbrev start : tie.After-run-on → tie.Start
 start c = search needs
 
-sub-slots : tie.Need-sub-slots
-sub-slots c = let s : tie.Start = search needs in omega (arith, built-two _ (s .pre .built))
-
-mul-slots : tie.Need-mul-slots
-mul-slots c = let s : tie.Start = search needs in omega (arith, built-slots _ (s .pre .built))
-
-add-slots : tie.Need-add-slots
-add-slots c = let s : tie.Start = search needs in omega (arith, built-slots _ (s .pre .built))
-
-cast-slots : tie.Need-cast-t24
-cast-slots c = let s : tie.Start = search needs in omega (arith, built-slots _ (s .pre .built))
-
-mul-top : tie.Need-mul-top
-mul-top c = let s : tie.Start = search needs in omega (arith, top-few (s .pre .built .ready .valid))
-
-add-top : tie.Need-add-top
-add-top c = let s : tie.Start = search needs in omega (arith, top-few (s .pre .built .ready .valid))
-
 run-on-requires : tie.Need-run-on-requires
 run-on-requires c κs = let s : tie.Start = search needs in built-runs _ (s .pre .built)
 
@@ -45,12 +27,12 @@ pub steps-spec : {M : Type 1} → statement M
 steps-spec =
     tie.close
     (tie.spec
-    sub-slots
-    mul-slots
-    add-slots
-    cast-slots
-    mul-top
-    add-top
+    (λ c. let s : tie.Start = search needs in omega (arith, built-two _ (s .pre .built)))
+    (λ c. let s : tie.Start = search needs in omega (arith, built-slots _ (s .pre .built)))
+    (λ c. let s : tie.Start = search needs in omega (arith, built-slots _ (s .pre .built)))
+    (λ c. let s : tie.Start = search needs in omega (arith, built-slots _ (s .pre .built)))
+    (λ c. let s : tie.Start = search needs in omega (arith, top-few (s .pre .built .ready .valid)))
+    (λ c. let s : tie.Start = search needs in omega (arith, top-few (s .pre .built .ready .valid)))
     run-on-requires
     counts-requires
     (λ c κs. search needs)

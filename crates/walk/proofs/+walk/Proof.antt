@@ -95,12 +95,6 @@ module _ (t : ℕ) where
   abbrev entry : Else2 → Start
   entry c = start (away c)
 
-  arrive-requires : lts.Need-arrive-requires (claims t) (walk-at t) walk.Post
-  arrive-requires c κs = tt
-
-  same-length : lts.Need-same-length (claims t) (walk-at t) walk.Post
-  same-length c = search needs
-
   returns : lts.Need-returns (claims t) (walk-at t) walk.Post
   returns c =
       let here : Then1 = search needs in
@@ -111,18 +105,6 @@ module _ (t : ℕ) where
   returns-2 c =
       let e = c .if2 .taken in
       lost-walk _ _ (rw e (back-stops _ _ _ _ _ _ (c .before .if1 .left)))
-
-  cast-t16 : lts.Need-cast-t16 (claims t) (walk-at t) walk.Post
-  cast-t16 c = search needs
-
-  mul-t17 : lts.Need-mul-t17 (claims t) (walk-at t) walk.Post
-  mul-t17 c = search needs
-
-  shared-slice-read-t19 : lts.Need-shared-slice-read-t19 (claims t) (walk-at t) walk.Post
-  shared-slice-read-t19 c = let a : Else2 = search needs in parent-inside (entry a .pre .1)
-
-  leads-to-requires : lts.Need-leads-to-requires (claims t) (walk-at t) walk.Post
-  leads-to-requires c κs = tt
 
   returns-3 : lts.Need-returns-3 (claims t) (walk-at t) walk.Post
   returns-3 c =
@@ -150,9 +132,6 @@ module _ (t : ℕ) where
   write-behind-requires : lts.Need-write-behind-requires (claims t) (walk-at t) walk.Post
   write-behind-requires c κs = let w : After-walk = search needs in came-back _ _ _ (w .walk .ensures .0) (w .walk .ensures .1)
 
-  same-length-2 : lts.Need-same-length-2 (claims t) (walk-at t) walk.Post
-  same-length-2 c = search needs
-
   returns-4 : lts.Need-returns-4 (claims t) (walk-at t) walk.Post
   returns-4 c =
       let w : After-walk = search needs in
@@ -167,19 +146,19 @@ pub +walk-spec : {M : Type 1} → statement M
 +walk-spec =
     close μ-walk
     (λ t. lts.spec (claims t) (walk-at t) walk.Post
-    (arrive-requires t)
-    (same-length t)
+    (λ c κs. tt)
+    (λ c. search needs)
     (returns t)
     (returns-2 t)
-    (cast-t16 t)
-    (mul-t17 t)
-    (shared-slice-read-t19 t)
-    (leads-to-requires t)
+    (λ c. search needs)
+    (λ c. search needs)
+    (λ c. let a : Else2 t = search needs in parent-inside (entry t a .pre .1))
+    (λ c κs. tt)
     (returns-3 t)
     (tail-of-requires t)
     (sub-walk t)
     (add-walk t)
     (walk-requires t)
     (write-behind-requires t)
-    (same-length-2 t)
+    (λ c. search needs)
     (returns-4 t))

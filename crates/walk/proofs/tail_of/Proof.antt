@@ -54,9 +54,6 @@ loop-again-2 c =
       to = omega (arith, c .if1 .left);
     }
 
-cast-t12 : tie.Need-cast-t12 Inv-loop μ-loop
-cast-t12 c = omega (arith, c .before .loop .inv .some, c .before .loop .inv .high-node, c .before .before .pre .few)
-
 returns : tie.Need-returns Inv-loop μ-loop
 returns c = within-end _ _ _ _ (c .before .loop .inv) (c .loop-test .left)
 
@@ -76,5 +73,5 @@ tail-of-spec =
     loop-again
     loop-less-2
     loop-again-2
-    cast-t12
+    (λ c. omega (arith, c .before .loop .inv .some, c .before .loop .inv .high-node, c .before .before .pre .few))
     returns)

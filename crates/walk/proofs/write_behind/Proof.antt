@@ -9,15 +9,6 @@ use Rattle.walk.proofs.write_behind.Tie as tie
 room : (c : tie.After-known-told) → c .before .walked .given .0 .0 < length (c .before .before .before .args .route .now)
 room c = rw (c .before .walked .given .1) at (c .before .before .before .pre)
 
-mul-route : tie.Need-mul-route
-mul-route c = let r = room c in search needs
-
-slice-write-route : tie.Need-slice-write-route
-slice-write-route c = room c
-
-add-t6 : tie.Need-add-t6
-add-t6 c = let r = room c in search needs
-
 returns : tie.Need-returns
 returns c = rw (c .before .walked .given .1) (refl, refl)
 
@@ -26,9 +17,9 @@ write-behind-spec =
     tie.close
     (tie.spec
     (λ c. search needs)
-    mul-route
-    slice-write-route
-    add-t6
+    (λ c. let r = room c in search needs)
+    room
+    (λ c. let r = room c in search needs)
     (λ c. search needs)
     (λ c. search needs)
     (λ c. search needs)

@@ -21,11 +21,6 @@ test : (c : tie.After-byte-at2)
     ≡ formed (drop (entry c .args .at) (entry c .args .bytes .now)) (c .before .before .digits-at .result .count) (entry c .args .end)
 test c = formed-at (entry c .args .bytes .now) _ _ _ _ _ (c .before .byte-at .ensures) (c .byte-at2 .ensures)
 
-add-t17 : tie.Need-add-t17
-add-t17 c =
-    let s = entry (c .before) in
-    omega (arith, c .before .before .before .digits-at .ensures .within, length-drop (s .args .at) (s .args .bytes .now))
-
 returns : tie.Need-returns
 returns c =
     formed-field (c .before .before .before .digits-at .ensures) (entry (c .before) .args .end) (sym (test (c .before)) ∙ c .if1 .taken)
@@ -42,6 +37,6 @@ field-at-spec =
     (λ c κs. search needs)
     add-byte-at
     (λ c κs. search needs)
-    add-t17
+    (λ c. let s = entry (c .before) in omega (arith, c .before .before .before .digits-at .ensures .within, length-drop (s .args .at) (s .args .bytes .now)))
     returns
     returns-2)

@@ -69,9 +69,6 @@ loop-again c =
     let i = inside e in
     read-next _ _ _ _ _ (loop-of i .loop .inv) (i .loop-test .taken) (e .end-of .ensures .0) (e .end-of .ensures .1) (sym (asked v .field-at .ensures) ∙ v .value .given .1)
 
-sub-t15 : tie.Need-sub-t15 Inv-loop μ-loop
-sub-t15 c = c .before .loop .inv .start
-
 returns-2 : tie.Need-returns-2 Inv-loop μ-loop
 returns-2 c = read-end _ _ _ _ _ (c .before .loop .inv) (c .loop-test .left)
 
@@ -94,6 +91,6 @@ line-at-spec =
     (λ c. search needs)
     loop-less
     loop-again
-    sub-t15
+    (λ c. c .before .loop .inv .start)
     (λ c. c .before .loop .inv .room)
     returns-2)
