@@ -5,14 +5,14 @@ use mathlib.Core.Path.{_≡_, refl, sym, _∙_}
 use mathlib.Core.Logic.{_≢_}
 use mathlib.Core.List.{List}
 use lib.ListN.{length}
-use Rattle.theory.specs.Maps.{Map, Reached, Valid}
+use Rattle.theory.specs.Maps.{Map, Reached, Valid, arcs}
 use Rattle.theory.specs.Network.{Network, network, Path}
 use Rattle.theory.specs.Search.{search}
 use Rattle.theory.specs.Examined.{examined, FirstOf}
 use Rattle.theory.specs.Shape.{Shape, oneLevelBuckets, twoLevelBuckets, oneLevel, twoLevel}
 use Rattle.theory.specs.Heap.{nothing, pick, heap}
 use Rattle.theory.specs.Runs.{Inputs, ValidInputs, Levels, one, two, Segmented, Allowed, heapBuckets, removalLooks, shapeOf, stepsOf}
-use Rattle.theory.specs.Demands.{CheapestPaths, CheapestRoutes, Roster, Demanded}
+use Rattle.theory.specs.Demands.{CheapestPaths, CheapestRoutes, Roster, operations, Demanded}
 use Rattle.theory.proofs.Search.Cheapest.{search-cheapest}
 use Rattle.theory.proofs.Search.Counts.{search-counted}
 use Rattle.theory.proofs.Search.First.{search-first}
@@ -76,6 +76,8 @@ module _ {M : Map} {C source : ℕ} (valid : Valid M C source) where
         let A = map-admissible valid in
         let c = search-counted A in
         let i : heap N sh .search .insertions ≡ length (heap N sh .search .roster) = rw same (c .insertions) in
+        let placed = heap-placed A law fits in
+        let looked = heap-looks A law fits in
         record {
           cheapest = rw same (paths-routes _ _ (search-cheapest A));
           counts = record {
@@ -84,8 +86,9 @@ module _ {M : Map} {C source : ℕ} (valid : Valid M C source) where
             insertions = i;
             decreases = rw same (c .decreases);
             sum = omega (arith, i);
-            placed = heap-placed A law fits;
-            looked = heap-looks A law fits;
+            placed = placed;
+            looked = looked;
+            operated = omega (arith, placed, looked);
           };
         }
 
@@ -157,3 +160,13 @@ one-level-demanded valid = run-demanded valid one tt
 pub two-level-demanded : {I : Inputs} {K : ℕ} → ValidInputs I → 2 ≤ K
     → Demanded (I .map) (I .source) (twoLevelBuckets (I .ceiling) K) (twoLevelBuckets (I .ceiling) K + K) (stepsOf (two K) I)
 two-level-demanded {K = K} valid s = run-demanded valid (two K) s
+
+-- The heap operations of both, in document 01's B and K: at most 2 r B + m - r + 1 and r (2 B + K) + m - r + 1.
+module _ {I : Inputs} (valid : ValidInputs I) where
+  pub one-level-operations : operations (stepsOf one I) + length (stepsOf one I .search .roster)
+      ≤ 2 * (length (stepsOf one I .search .roster) * oneLevelBuckets (I .ceiling)) + arcs (I .map) + 1
+  one-level-operations = omega (arith, one-level-demanded valid .counts .operated)
+
+  pub two-level-operations : {K : ℕ} → 2 ≤ K → operations (stepsOf (two K) I) + length (stepsOf (two K) I .search .roster)
+      ≤ length (stepsOf (two K) I .search .roster) * (2 * twoLevelBuckets (I .ceiling) K + K) + arcs (I .map) + 1
+  two-level-operations s = omega (arith, two-level-demanded valid s .counts .operated)

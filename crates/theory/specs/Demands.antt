@@ -52,9 +52,18 @@ pub record Roster (IsReached : ℕ → Type 0) (distances roster : List ℕ) : T
   pub farthest : ℕ
   pub rising : Rising distances 0 roster farthest
 
+-- The heap operations of the steps h: placements and looks (demand 3; document 01, "The tallies").
+abbrev pub operations : Heap → ℕ
+operations h = placements h + h .looks
+
+-- A number of heap operations is within demand 3's bound for r reached nodes of m arcs, with B buckets and at most L looks to a removal:
+-- r × (B + L) + m - r + 1 (document 01, "The tallies").
+abbrev pub OperationsBounded : (number r m B L : ℕ) → Type 0
+OperationsBounded number r m B L = number + r ≤ r * (B + L) + m + 1
+
 -- Demand 3, of the steps h of a run by a heap of B buckets in which a removal makes at most L looks. With r the number of
 -- reached nodes: decreases ≤ m - r + 1 and placements = r + decreases + shifts ≤ r × B + m - r + 1, where a difference stands as
--- a sum on the other side, since a difference of natural numbers stops at 0; looks ≤ r × L.
+-- a sum on the other side, since a difference of natural numbers stops at 0; looks ≤ r × L; all heap operations together.
 pub record BoundedCounts (M : Map) (source B L : ℕ) (h : Heap) : Type 0 where
   pub roster : Roster (Reached M source) (h .search .distances) (h .search .roster)
   pub few : length (h .search .roster) ≤ M .nodes
@@ -63,6 +72,7 @@ pub record BoundedCounts (M : Map) (source B L : ℕ) (h : Heap) : Type 0 where
   pub sum : placements h ≡ length (h .search .roster) + h .search .decreases + h .shifts
   pub placed : placements h + length (h .search .roster) ≤ length (h .search .roster) * B + arcs M + 1
   pub looked : h .looks ≤ length (h .search .roster) * L
+  pub operated : OperationsBounded (operations h) (length (h .search .roster)) (arcs M) B L
 
 -- Demands 2 and 3 together, of the steps h of a run.
 pub record Demanded (M : Map) (source B L : ℕ) (h : Heap) : Type 0 where
