@@ -10,12 +10,12 @@ use Rattle.model.specs.declared.Check.the-variants.{Passed}
 use Rattle.model.specs.declared.RunAnswer.{RunAnswer}
 use Rattle.model.specs.Answers.{Numbers, numbersOf}
 use Rattle.theory.specs.Maps.{Map, arcs, Route}
-use Rattle.theory.specs.Runs.{Inputs, Levels, one, two, heapBuckets, removalLooks}
+use Rattle.theory.specs.Runs.{Inputs, Levels, one, two, heapBuckets, removalLooks, stepsOf}
 use Rattle.theory.specs.Heap.{Heap, placements}
-use Rattle.theory.specs.Demands.{BoundedCounts}
+use Rattle.theory.specs.Demands.{operations, OperationsBounded, BoundedCounts}
 use Rattle.checks.specs.Checks.{firstFault, runChecks}
 use Rattle.runs.specs.Promise.{Lent, lengthsOf, Ran, Promised}
-use Rattle.budgets.specs.Budget.{mostReached, mostDecreases, mostPlacements, mostLooks, Within}
+use Rattle.budgets.specs.Budget.{mostReached, mostDecreases, mostPlacements, mostLooks, mostOperations, operationsOf, Within}
 use Rattle.budgets.proofs.Sizing.{one-some, two-some}
 
 some-listed : {v : ℕ} (l : List ℕ) → List·Memᴰ v l → 1 ≤ length l
@@ -45,16 +45,41 @@ module _ {M : Map} {source B L : ℕ} {h : Heap} (counts : BoundedCounts M sourc
   looks-within : h .looks ≤ mostLooks (M .nodes) (arcs M) L
   looks-within = let most : r * L ≤ mostReached (M .nodes) (arcs M) * L = mul-le-mul reached (le-refl L) in omega (arith, counts .looked)
 
-module _ (L : Levels) (I : Inputs) (l l′ : Lent) {answer : RunAnswer} where
-  pub run-within : firstFault (runChecks L I (lengthsOf l)) ≡ Passed → Promised L I answer l l′
-      → Within (I .map .nodes) (arcs (I .map)) (heapBuckets L (I .ceiling)) (removalLooks L (I .ceiling)) (numbersOf answer)
-  run-within e P =
-      let Q = subst (λ (k : Check). Ran L I k answer l l′) e P in
-      let counts = Q .demanded .counts in
+  operations-within : operations h ≤ mostOperations (M .nodes) (arcs M) B L
+  operations-within =
+      let split : r * (B + L) ≡ r * (B + L - 1) + r = let e : B + L ≡ B + L - 1 + 1 = omega arith in ap (λ (k : ℕ). r * k) e ∙ omega arith in
+      let most : r * (B + L - 1) ≤ mostReached (M .nodes) (arcs M) * (B + L - 1) = mul-le-mul reached (le-refl (B + L - 1)) in
+      omega (arith, counts .operated)
+
+-- The most heap operations in document 01's B and K: with R nodes reached at the most, R (2 B - 1) + m + 1 and R (2 B + K - 1) + m + 1.
+pub one-level-most-operations : (n m B : ℕ) → mostOperations n m B B ≡ mostReached n m * (2 * B - 1) + m + 1
+one-level-most-operations n m B = let e : B + B - 1 ≡ 2 * B - 1 = omega arith in ap (λ (k : ℕ). mostReached n m * k + m + 1) e
+
+pub two-level-most-operations : (n m B K : ℕ) → mostOperations n m B (B + K) ≡ mostReached n m * (2 * B + K - 1) + m + 1
+two-level-most-operations n m B K = let e : B + (B + K) - 1 ≡ 2 * B + K - 1 = omega arith in ap (λ (k : ℕ). mostReached n m * k + m + 1) e
+
+module _ (L : Levels) (I : Inputs) (l l′ : Lent) {answer : RunAnswer} (e : firstFault (runChecks L I (lengthsOf l)) ≡ Passed) (P : Promised L I answer l l′) where
+  accepted : Ran L I Passed answer l l′
+  accepted = subst (λ (k : Check). Ran L I k answer l l′) e P
+
+  -- The heap operations given back are those of the steps.
+  pub operations-given : operationsOf (numbersOf answer .counts) ≡ operations (stepsOf L I)
+  operations-given = ap (λ (n : Numbers). operationsOf (n .counts)) (accepted .numbers)
+
+  -- The bound of a run by the nodes that it has reached: r (B + L) + m - r + 1.
+  pub run-operations : OperationsBounded (operationsOf (numbersOf answer .counts)) (numbersOf answer .reached) (arcs (I .map))
+      (heapBuckets L (I .ceiling)) (removalLooks L (I .ceiling))
+  run-operations = rw (accepted .numbers) (accepted .demanded .counts .operated)
+
+  pub run-within : Within (I .map .nodes) (arcs (I .map)) (heapBuckets L (I .ceiling)) (removalLooks L (I .ceiling)) (numbersOf answer)
+  run-within =
+      let counts = accepted .demanded .counts in
       let some = buckets-some L (I .ceiling) in
+      let told = accepted .numbers in
       record {
-        buckets = ap (λ (n : Numbers). n .buckets) (Q .numbers);
-        decreases = omega (arith, ap (λ (n : Numbers). n .counts .decreases) (Q .numbers), decreases-within counts some);
-        placements = omega (arith, ap (λ (n : Numbers). n .counts .placements) (Q .numbers), placements-within counts some);
-        looks = omega (arith, ap (λ (n : Numbers). n .counts .looks) (Q .numbers), looks-within counts some);
+        buckets = ap (λ (n : Numbers). n .buckets) told;
+        decreases = omega (arith, ap (λ (n : Numbers). n .counts .decreases) told, decreases-within counts some);
+        placements = omega (arith, ap (λ (n : Numbers). n .counts .placements) told, placements-within counts some);
+        looks = omega (arith, ap (λ (n : Numbers). n .counts .looks) told, looks-within counts some);
+        operations = omega (arith, operations-given, operations-within counts some);
       }

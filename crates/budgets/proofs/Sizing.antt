@@ -21,7 +21,7 @@ use Rattle.fields.proofs.Lines.{line-within}
 use Rattle.fields.proofs.LineReading.{missing-line, line-read}
 use Rattle.report.specs.Report.{wordOne, wordTwo, ended, refusedText}
 use Rattle.report.proofs.Lines.{ended-length, field-most, two-most}
-use Rattle.budgets.specs.Budget.{mostReached, Small, budgetChecks, budgetCheck, boundsLine, sizeText, budgetText}
+use Rattle.budgets.specs.Budget.{mostReached, Small, budgetChecks, budgetCheck, boundsLine, heapBounds, sizeText, budgetText}
 
 -- ---- sizes
 
@@ -63,45 +63,64 @@ module _ {n m C K : ℕ} (S : Sized n m C K) where
   reached-few : mostReached n m ≤ 4096
   reached-few = omega (arith, S .few-nodes)
 
-  pub one-small : {r B : ℕ} → r ≡ mostReached n m → B ≡ oneLevelBuckets C → Small r B m
-  one-small e f = record { few-nodes = omega (arith, reached-few); some = omega (arith, one-some C); few = omega (arith, one-level-most C); few-arcs = S .few-arcs }
+  pub one-small : {B : ℕ} → B ≡ oneLevelBuckets C → Small (mostReached n m) B m
+  one-small f = record { few-nodes = reached-few; some = omega (arith, one-some C); few = omega (arith, one-level-most C); few-arcs = S .few-arcs }
 
-  pub two-small : {r B : ℕ} → r ≡ mostReached n m → B ≡ twoLevelBuckets C K → Small r B m
-  two-small e f = record { few-nodes = omega (arith, reached-few); some = omega (arith, two-some C K); few = omega (arith, two-level-most C K); few-arcs = S .few-arcs }
+  pub two-small : {B : ℕ} → B ≡ twoLevelBuckets C K → Small (mostReached n m) B m
+  two-small f = record { few-nodes = reached-few; some = omega (arith, two-some C K); few = omega (arith, two-level-most C K); few-arcs = S .few-arcs }
 
--- The bounds fit a word.
-pub placements-fit : {r B m : ℕ} → Small r B m → r * (B - 1) + m + 1 < 4294967296
+pub small-same : {r r′ B m : ℕ} → r ≡ r′ → Small r′ B m → Small r B m
+small-same e S = rw e S
+
+-- The bounds fit a word, with room to spare.
+pub placements-fit : {r B m : ℕ} → Small r B m → r * (B - 1) + m + 1 ≤ 1048576
 placements-fit {r} {B} {m} S = let most : r * (B - 1) ≤ 4096 * 21 = let less : B - 1 ≤ 21 = omega (arith, S .few) in mul-le-mul (S .few-nodes) less in omega (arith, S .few-arcs)
 
-pub looks-fit : {r L : ℕ} → r ≤ 4096 → L ≤ 128 → r * L < 4294967296
+pub looks-fit : {r L : ℕ} → r ≤ 4096 → L ≤ 128 → r * L ≤ 1048576
 looks-fit {r} {L} a b = let most : r * L ≤ 4096 * 128 = mul-le-mul a b in omega arith
+
+pub operations-fit : {r B L m : ℕ} → Small r B m → L ≤ 128 → r * (B + L - 1) + m + 1 ≤ 1048576
+operations-fit {r} {B} {L} {m} S b =
+    let most : r * (B + L - 1) ≤ 4096 * 149 = let less : B + L - 1 ≤ 149 = omega (arith, S .few) in mul-le-mul (S .few-nodes) less in omega (arith, S .few-arcs)
 
 -- ---- the text
 
-pub bounds-whole : (word : List ℕ) (buckets decreases placements looks : ℕ)
-    → ended word comma ++ ended (decimal buckets) comma ++ ended (decimal decreases) comma ++ renderLine comma (placements ∷ looks ∷ [])
-    ≡ boundsLine word buckets decreases placements looks
+pub bounds-whole : (word : List ℕ) (buckets decreases placements looks operations : ℕ)
+    → ended word comma ++ ended (decimal buckets) comma ++ ended (decimal decreases) comma ++ ended (decimal placements) comma ++ renderLine comma (looks ∷ operations ∷ [])
+    ≡ boundsLine word buckets decreases placements looks operations
 unfolding renderFields boundsLine
-bounds-whole word buckets decreases placements looks = simp append-assoc
+bounds-whole word buckets decreases placements looks operations = simp append-assoc
 
-pub bounds-most : (word : List ℕ) (buckets decreases placements looks : ℕ) → length (boundsLine word buckets decreases placements looks) ≤ length word + 85
-bounds-most word buckets decreases placements looks = omega (
+bounds-most : (word : List ℕ) (buckets decreases placements looks operations : ℕ)
+    → length (boundsLine word buckets decreases placements looks operations) ≤ length word + 106
+bounds-most word buckets decreases placements looks operations = omega (
   arith,
-  ap length (bounds-whole word buckets decreases placements looks),
-  length-append (ended word comma ++ ended (decimal buckets) comma ++ ended (decimal decreases) comma) (renderLine comma (placements ∷ looks ∷ [])),
+  ap length (bounds-whole word buckets decreases placements looks operations),
+  length-append (ended word comma ++ ended (decimal buckets) comma ++ ended (decimal decreases) comma ++ ended (decimal placements) comma) (renderLine comma (looks ∷ operations ∷ [])),
+  length-append (ended word comma ++ ended (decimal buckets) comma ++ ended (decimal decreases) comma) (ended (decimal placements) comma),
   length-append (ended word comma ++ ended (decimal buckets) comma) (ended (decimal decreases) comma),
   length-append (ended word comma) (ended (decimal buckets) comma),
   ended-length word comma,
   field-most buckets comma,
   field-most decreases comma,
-  two-most placements looks,
+  field-most placements comma,
+  two-most looks operations,
 )
 
-pub size-whole : (n m C K : ℕ) {r one two placements₁ looks₁ placements₂ looks₂ : ℕ} → r ≡ mostReached n m → one ≡ oneLevelBuckets C → two ≡ twoLevelBuckets C K
-    → placements₁ ≡ r * (one - 1) + m + 1 → looks₁ ≡ r * one → placements₂ ≡ r * (two - 1) + m + 1 → looks₂ ≡ r * (two + K)
-    → boundsLine wordOne one m placements₁ looks₁ ++ boundsLine wordTwo two m placements₂ looks₂ ≡ sizeText n m C K
+pub heap-whole : (word : List ℕ) (n m B L : ℕ) {r placements looks operations : ℕ} → r ≡ mostReached n m
+    → placements ≡ r * (B - 1) + m + 1 → looks ≡ r * L → operations ≡ r * (B + L - 1) + m + 1
+    → boundsLine word B m placements looks operations ≡ heapBounds word n m B L
+unfolding heapBounds
+heap-whole word n m B L r p l o = rw (p, l, o, r) refl
+
+pub heap-most : (word : List ℕ) (n m B L : ℕ) → length (heapBounds word n m B L) ≤ length word + 106
+unfolding heapBounds
+heap-most word n m B L = bounds-most word B _ _ _ _
+
+pub size-whole : (n m C K : ℕ) {one two : ℕ} → one ≡ oneLevelBuckets C → two ≡ twoLevelBuckets C K
+    → heapBounds wordOne n m one one ++ heapBounds wordTwo n m two (two + K) ≡ sizeText n m C K
 unfolding sizeText
-size-whole n m C K r o t a b c d = rw (a, b, c, d, r, o, t) refl
+size-whole n m C K o t = rw (o, t) refl
 
 -- ---- the line
 

@@ -6,8 +6,9 @@ use lib.Dec.{ltb}
 use lib.ListN.{length, getD, drop}
 use Rattle.model.specs.declared.Check.{Check}
 use Rattle.model.specs.declared.Check.the-variants.{Passed, Fault}
+use Rattle.model.specs.declared.Counts.{Counts}
 use Rattle.model.specs.Answers as answers
-use Rattle.theory.specs.Shape.{oneLevelBuckets, twoLevelBuckets}
+use Rattle.theory.specs.Runs.{Levels, one, two, heapBuckets, removalLooks}
 use Rattle.check_numbers.specs.Numbers.{faultIf, nodesCheck, headCountCheck, ceilingCheck, segmentsCheck}
 use Rattle.checks.specs.Checks.{firstFault}
 use Rattle.fields.specs.Fields.{Line, NoLine, Numbers, comma, line, renderLine}
@@ -31,12 +32,21 @@ mostPlacements n m B = mostReached n m * (B - 1) + m + 1
 abbrev pub mostLooks : (n m L : ℕ) → ℕ
 mostLooks n m L = mostReached n m * L
 
+-- The most heap operations: r × (B + L) + m - r + 1 for the most nodes (demand 3).
+abbrev pub mostOperations : (n m B L : ℕ) → ℕ
+mostOperations n m B L = mostReached n m * (B + L - 1) + m + 1
+
+-- The heap operations of the counts that a run gives back (demand 3; document 01, "The tallies").
+abbrev pub operationsOf : Counts → ℕ
+operationsOf counts = counts .placements + counts .looks
+
 -- A run has returned no more than the bounds of its size, for a heap of B buckets in which a removal makes at most L looks (demand 3).
 pub record Within (n m B L : ℕ) (numbers : answers.Numbers) : Type 0 where
   pub buckets : numbers .buckets ≡ B
   pub decreases : numbers .counts .decreases ≤ mostDecreases m
   pub placements : numbers .counts .placements ≤ mostPlacements n m B
   pub looks : numbers .counts .looks ≤ mostLooks n m L
+  pub operations : operationsOf (numbers .counts) ≤ mostOperations n m B L
 
 -- Numbers so small that the bounds fit a word of 32 bits.
 pub record Small (reached buckets arcs : ℕ) : Type 0 where
@@ -75,15 +85,22 @@ budgetCheck bytes = lineCheck (line comma 4 bytes) bytes
 
 -- ---- the text
 
--- The line of a heap: its word, B, and the most decreases, placements and looks.
-unfoldable pub boundsLine : (word : List ℕ) → (buckets decreases placements looks : ℕ) → List ℕ
-boundsLine word buckets decreases placements looks = ended word comma ++ renderLine comma (buckets ∷ decreases ∷ placements ∷ looks ∷ [])
+-- The line of a heap: its word, B, and the most decreases, placements, looks and operations.
+unfoldable pub boundsLine : (word : List ℕ) → (buckets decreases placements looks operations : ℕ) → List ℕ
+boundsLine word buckets decreases placements looks operations =
+    ended word comma ++ renderLine comma (buckets ∷ decreases ∷ placements ∷ looks ∷ operations ∷ [])
+
+-- The line of a heap of B buckets in which a removal makes at most L looks, for n nodes and m arcs.
+unfoldable pub heapBounds : (word : List ℕ) → (n m B L : ℕ) → List ℕ
+heapBounds word n m B L = boundsLine word B (mostDecreases m) (mostPlacements n m B) (mostLooks n m L) (mostOperations n m B L)
+
+-- The line of a kind of heap for a size.
+abbrev pub levelsBounds : (word : List ℕ) → Levels → (n m C : ℕ) → List ℕ
+levelsBounds word L n m C = heapBounds word n m (heapBuckets L C) (removalLooks L C)
 
 -- The bounds of both heaps for a size.
 unfoldable pub sizeText : (n m C K : ℕ) → List ℕ
-sizeText n m C K =
-    boundsLine wordOne (oneLevelBuckets C) (mostDecreases m) (mostPlacements n m (oneLevelBuckets C)) (mostLooks n m (oneLevelBuckets C))
-    ++ boundsLine wordTwo (twoLevelBuckets C K) (mostDecreases m) (mostPlacements n m (twoLevelBuckets C K)) (mostLooks n m (twoLevelBuckets C K + K))
+sizeText n m C K = levelsBounds wordOne one n m C ++ levelsBounds wordTwo (two K) n m C
 
 -- The text for a line whose checks come to `check`.
 abbrev pub budgetLines : Check → Size → List ℕ

@@ -10,7 +10,7 @@ ghost use Rattle.model.specs.declared.Check.the-variants.{Passed};
 ghost use Rattle.check_numbers.specs.Numbers.{faultIf};
 ghost use Rattle.checks.specs.Checks.{firstFault};
 ghost use Rattle.fields.specs.Writing.{Writes};
-ghost use Rattle.budgets.specs.Budget.{mostReached, Small, budgetChecks, boundsLine, sizeText, budgetText};
+ghost use Rattle.budgets.specs.Budget.{mostReached, Small, budgetChecks, boundsLine, heapBounds, sizeText, budgetText};
 
 fn most_reached(nodes: u32, arcs: u32) -> u32
     requires { ⌜ arcs ≤ 65536 ⌝ }
@@ -33,7 +33,15 @@ fn most_looks(reached: u32, looks: u32) -> u32
     reached * looks
 }
 
-// The line of a heap.
+// Placements and looks together: the one number of a heap.
+fn most_operations(reached: u32, buckets: u32, looks: u32, arcs: u32) -> u32
+    requires { ⌜ Small reached buckets arcs × (looks ≤ 128) ⌝ }
+    ensures { λ r. ⌜ r ≡ reached * (buckets + looks - 1) + arcs + 1 ⌝ }
+{
+    reached * (buckets + looks - 1) + arcs + 1
+}
+
+// The line of a heap from its fields.
 fn write_bounds(
     output: &mut [u8],
     at: usize,
@@ -42,14 +50,47 @@ fn write_bounds(
     decreases: u32,
     placements: u32,
     looks: u32,
+    operations: u32,
 ) -> usize
-    requires { ⌜ at + length (now word) + 85 ≤ length (now output) ⌝ }
-    ensures { λ r. ⌜ Writes at (boundsLine (now (word .entry)) buckets decreases placements looks) (now (output .entry)) (now (output .exit)) r ⌝ }
+    requires { ⌜ at + length (now word) + 106 ≤ length (now output) ⌝ }
+    ensures { λ r. ⌜ Writes at (boundsLine (now (word .entry)) buckets decreases placements looks operations)
+        (now (output .entry)) (now (output .exit)) r ⌝ }
 {
     let second = report::put_word(output, at, word);
     let third = fields::writing::put_field(output, second, buckets as u64, b',');
     let fourth = fields::writing::put_field(output, third, decreases as u64, b',');
-    report::put_two(output, fourth, placements as u64, looks as u64)
+    let fifth = fields::writing::put_field(output, fourth, placements as u64, b',');
+    report::put_two(output, fifth, looks as u64, operations as u64)
+}
+
+// The line of a heap in which a removal makes at most so many looks.
+fn write_heap(
+    output: &mut [u8],
+    at: usize,
+    word: &[u8],
+    nodes: u32,
+    arcs: u32,
+    buckets: u32,
+    looks: u32,
+) -> usize
+    requires { ⌜ Small (mostReached nodes arcs) buckets arcs × (looks ≤ 128) ⌝ }
+    requires { ⌜ at + length (now word) + 106 ≤ length (now output) ⌝ }
+    ensures { λ r. ⌜ Writes at (heapBounds (now (word .entry)) nodes arcs buckets looks) (now (output .entry)) (now (output .exit)) r ⌝ }
+{
+    let reached = most_reached(nodes, arcs);
+    let placements = most_placements(reached, buckets, arcs);
+    let looked = most_looks(reached, looks);
+    let operations = most_operations(reached, buckets, looks, arcs);
+    write_bounds(
+        output,
+        at,
+        word,
+        buckets,
+        arcs,
+        placements,
+        looked,
+        operations,
+    )
 }
 
 // The bounds of both heaps for a size that has passed its checks.
@@ -58,27 +99,10 @@ fn write_size(output: &mut [u8], nodes: u32, arcs: u32, ceiling: u32, segments: 
     requires { ⌜ 256 ≤ length (now output) ⌝ }
     ensures { λ r. ⌜ Writes 0 (sizeText nodes arcs ceiling segments) (now (output .entry)) (now (output .exit)) r ⌝ }
 {
-    let reached = most_reached(nodes, arcs);
     let one = sizes::one_level_buckets(ceiling);
     let two = sizes::two_level_buckets(ceiling, segments);
-    let next = write_bounds(
-        output,
-        0,
-        b"one",
-        one,
-        arcs,
-        most_placements(reached, one, arcs),
-        most_looks(reached, one),
-    );
-    write_bounds(
-        output,
-        next,
-        b"two",
-        two,
-        arcs,
-        most_placements(reached, two, arcs),
-        most_looks(reached, two + segments),
-    )
+    let next = write_heap(output, 0, b"one", nodes, arcs, one, one);
+    write_heap(output, next, b"two", nodes, arcs, two, two + segments)
 }
 
 // The checks of a size, then left-over bytes.

@@ -12,5 +12,5 @@ most-placements-spec =
     (λ c. c .pre .some)
     (λ c. record { fits = omega (arith, placements-fit (c .pre)) })
     (λ c. record { fits = omega (arith, placements-fit (c .pre)) })
-    (λ c. record { fits = placements-fit (c .pre) })
+    (λ c. record { fits = omega (arith, placements-fit (c .pre)) })
     (λ c. search needs))

@@ -18,8 +18,11 @@ word-put c = search needs
 abbrev buckets-put : tie.After-put-field2 → tie.After-put-field
 buckets-put c = search needs
 
-abbrev decreases-put : tie.After-put-two → tie.After-put-field2
+abbrev decreases-put : tie.After-put-field3 → tie.After-put-field2
 decreases-put c = search needs
+
+abbrev placements-put : tie.After-put-two → tie.After-put-field3
+placements-put c = search needs
 
 put-field-requires : tie.Need-put-field-requires
 put-field-requires c κs =
@@ -41,8 +44,8 @@ put-field-requires-2 c κs =
       buckets .put-field .ensures .behind,
     )
 
-put-two-requires : tie.Need-put-two-requires
-put-two-requires c κs =
+put-field-requires-3 : tie.Need-put-field-requires-3
+put-field-requires-3 c κs =
     let decreases : tie.After-put-field2 = search needs in
     let buckets = buckets-put decreases in
     let word = word-put buckets in
@@ -58,14 +61,36 @@ put-two-requires c κs =
       decreases .put-field2 .ensures .behind,
     )
 
+put-two-requires : tie.Need-put-two-requires
+put-two-requires c κs =
+    let placements : tie.After-put-field3 = search needs in
+    let decreases = decreases-put placements in
+    let buckets = buckets-put decreases in
+    let word = word-put buckets in
+    let s = start word in
+    omega (
+      arith,
+      s .pre,
+      ended-length (s .args .word .now) comma,
+      field-most (s .args .buckets) comma,
+      field-most (s .args .decreases) comma,
+      field-most (s .args .placements) comma,
+      word .put-word .ensures .behind,
+      buckets .put-field .ensures .behind,
+      decreases .put-field2 .ensures .behind,
+      placements .put-field3 .ensures .behind,
+    )
+
 returns : tie.Need-returns
 returns c =
     let two : tie.After-put-two = search needs in
-    let decreases = decreases-put two in
+    let placements = placements-put two in
+    let decreases = decreases-put placements in
     let buckets = buckets-put decreases in
-    writes-same (bounds-whole _ _ _ _ _)
+    writes-same (bounds-whole _ _ _ _ _ _)
+    (writes-then
     (writes-then (writes-then (writes-then (word-put buckets .put-word .ensures) (buckets .put-field .ensures)) (decreases .put-field2 .ensures))
-    (two .put-two .ensures))
+    (placements .put-field3 .ensures)) (two .put-two .ensures))
 
 pub write-bounds-spec : {M : Type 1} → statement M
 write-bounds-spec =
@@ -74,6 +99,7 @@ write-bounds-spec =
     (λ c κs. search needs)
     put-field-requires
     put-field-requires-2
+    put-field-requires-3
     put-two-requires
     (λ c. search needs)
     returns)
