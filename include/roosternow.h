@@ -187,6 +187,9 @@ static inline uint64_t roosternow_most_operations_two_level(uint32_t n, uint32_t
     return roosternow_most_operations(n, m, ceiling, 2u * (buckets < 2u ? 2u : buckets) + segments - 1u);
 }
 
+/* ROOSTERNOW_VERSION of the archive: a program compares it with the macro, so that a header of another version is noticed. */
+uint32_t roosternow_version(void);
+
 /*
  * The one-level run: cheapest routes from the source to every node.
  *

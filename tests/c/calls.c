@@ -455,6 +455,7 @@ int main(int count, char **words) {
         fprintf(stderr, "use: calls [INPUTS [SEED]], numbers from 1 of at most 18 digits\n");
         return 2;
     }
+    expect(roosternow_version() == ROOSTERNOW_VERSION, "the archive is of another version than its header");
     make_lists();
     for (input = 0; input < inputs; input++) {
         bool large = input % 10000 == 0;

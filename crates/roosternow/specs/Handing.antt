@@ -1,6 +1,6 @@
 -- What a call from C finds in the lent array of numbers, beside what the entry point behind it promises (document 01, "What a call
 -- returns").
-use Prim.Native.Nat.{ℕ}
+use Prim.Native.Nat.{ℕ, _+_, _*_}
 use mathlib.Core.Path.{_≡_}
 use mathlib.Core.List.{List}
 use Rattle.model.specs.declared.RunAnswer.{RunAnswer}
@@ -12,6 +12,10 @@ use Rattle.route.specs.Routes.{routeNumbersOf, RoutePromised}
 use Rattle.reader.specs.declared.PlanAnswer.{PlanAnswer}
 use Rattle.reader.specs.Promise.{planNumbersOf, PlanPromised}
 use Rattle.answer_words.specs.Words.{runWords, routeWords, readWords}
+
+-- The version of the archive, MAJOR × 1000 + MINOR: ROOSTERNOW_VERSION of its header.
+abbrev pub archiveVersion : ℕ
+archiveVersion = 2 * 1000 + 0
 
 -- A run: its promise, and the numbers of its answer (document 01, "What a call returns").
 pub record RunHanded (L : Levels) (I : Inputs) (l l′ : Lent) (numbers′ : List ℕ) : Type 0 where

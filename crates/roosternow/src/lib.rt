@@ -4,10 +4,21 @@ use answer_words::read_words;
 use answer_words::route_words;
 use answer_words::run_words;
 use model::Node;
+ghost use mathlib.Core.Path.{_≡_};
 ghost use Rattle.theory.specs.Runs.{inputs};
 ghost use Rattle.runs.specs.Promise.{lent};
 ghost use Rattle.planning.specs.Planning.{planLists, PlanningPromised};
-ghost use Rattle.roosternow.specs.Handing.{OneLevelHanded, TwoLevelHanded, RouteHanded, ReadHanded};
+ghost use Rattle.roosternow.specs.Handing.{archiveVersion, OneLevelHanded, TwoLevelHanded, RouteHanded, ReadHanded};
+
+const VERSION: u32 = 2000;
+
+// The version of the archive, which a program holds against the header's.
+#[no_mangle]
+pub extern "C" fn roosternow_version() -> u32
+    ensures { λ r. ⌜ r ≡ archiveVersion ⌝ }
+{
+    VERSION
+}
 
 // The one-level run.
 #[no_mangle]
