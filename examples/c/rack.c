@@ -164,6 +164,10 @@ int main(int count, char **words) {
         fprintf(stderr, "use: rack [--budget-share THOUSANDTHS], a number up to 1000\n");
         return 2;
     }
+    if (roosternow_version() != ROOSTERNOW_VERSION) {
+        fprintf(stderr, "rack: header and archive are of different versions\n");
+        return 1;
+    }
     for (int loop = 0; loop < LOOPS; loop++) {
         lay(loop);
         set_budget(loop, (uint32_t)share);

@@ -24,6 +24,10 @@ static int refused(const uint64_t *numbers) {
 
 int main(void) {
     uint64_t numbers[ROOSTERNOW_RUN_NUMBERS];
+    if (roosternow_version() != ROOSTERNOW_VERSION) {
+        puts("header and archive are of different versions");
+        return 1;
+    }
     roosternow_one_level(NODES, CEILING, DEPOT, starts, NODES + 1, heads, ARCS, costs, ARCS, distances, NODES, parents, NODES, roster,
                          NODES, work, ROOSTERNOW_WORK_ONE_LEVEL(NODES), numbers);
     if (refused(numbers)) {
