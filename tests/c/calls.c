@@ -442,6 +442,18 @@ static void report(uint64_t inputs) {
     }
 }
 
+/* The data sheet's formulas, worked out by hand: R (2 B - 1) + m + 1 and R (2 B + K - 1) + m + 1. */
+static void expect_operations(void) {
+    expect(roosternow_most_operations_one_level(5, 7, 9) == 5 * 11 + 8, "heap operations of document 01's listing, one level");
+    expect(roosternow_most_operations_two_level(5, 7, 9, 3) == 5 * 10 + 8, "heap operations of document 01's listing, two levels");
+    expect(roosternow_most_operations_one_level(300, 1200, 10000) == 10501, "heap operations of a loop, one level");
+    expect(roosternow_most_operations_two_level(300, 1200, 10000, 7) == 6601, "heap operations of a loop, two levels");
+    expect(roosternow_most_operations_one_level(1, 0, 0) == 1 * 3 + 1, "heap operations of one node, one level");
+    expect(roosternow_most_operations_two_level(4096, 3, 0, 2) == 4 * 5 + 4, "heap operations of four nodes at most, two levels");
+    expect(roosternow_most_operations_one_level(4097, 0, 0) == 0, "heap operations of a size that is refused");
+    expect(roosternow_most_operations_two_level(1, 0, 0, 65) == 0, "heap operations of a K that is refused");
+}
+
 /* A number from 1 of at most 18 digits; 0 for any other word. */
 static uint64_t number_of(const char *word) {
     size_t digits = strspn(word, "0123456789");
@@ -456,6 +468,7 @@ int main(int count, char **words) {
         return 2;
     }
     expect(roosternow_version() == ROOSTERNOW_VERSION, "the archive is of another version than its header");
+    expect_operations();
     make_lists();
     for (input = 0; input < inputs; input++) {
         bool large = input % 10000 == 0;
