@@ -2,12 +2,10 @@
 use Prim.Native.Nat.{ℕ, _+_, _-_, _*_, _≤_, _<_}
 use native.Mathlib.Omega.{arith}
 use mathlib.Core.Path.{_≡_, sym, ap, _∙_}
-use mathlib.Core.Logic.{inl, inr}
 use mathlib.Core.List.{List, _∷_}
 use lib.ListN.{length, length-drop}
 use Rattle.theory.specs.Shape.{Shape}
 use Rattle.theory.specs.Heap.{bound, rebound, boundsAfter, boundsFrom, firstBounds}
-use Rattle.theory.proofs.Cases.{split}
 use Rattle.theory.specs.Lawful.{Lawful}
 use Rattle.bounds.specs.Words.{boundsOf, sizeOf, reboundWords, firstWords, segmentNumber, segmentEnd, Agrees}
 use Rattle.bounds.proofs.Rebound.{rebound-same, rebound-alike}
@@ -43,15 +41,5 @@ module _ {sh : Shape} {B K : ℕ} {sizes : List ℕ} (a : Agrees sh B K sizes) w
         ∙ sym (ap (λ (v : List ℕ). bound v i) (after-agrees j k d u h))
 
   -- What the segment functions require, of a key x that stands within its bucket.
-  module _ {C S : ℕ} (law : Lawful sh C S) (j u x : ℕ) (low : 1 ≤ j) (under : x ≤ u) (near : j < B → u < x + sh .size j) where
-    pub segment-some : 1 ≤ segmentNumber B K sizes j u x
-    segment-some = rw (a .segment j u x) at (law .low j u x low under (rw (sym (a .buckets)) at near))
-
-    pub end-reached : x ≤ segmentEnd B K sizes j u (segmentNumber B K sizes j u x)
-    end-reached =
-        let e : sh .end j u (sh .segment j u x) ≡ segmentEnd B K sizes j u (segmentNumber B K sizes j u x) =
-        a .end j u (sh .segment j u x) ∙ ap (segmentEnd B K sizes j u) (a .segment j u x) in
-        elim (split j B) [
-          | inl h ↦ omega (arith, law .inside j u x low (omega (arith, a .buckets)) under (near h))
-          | inr h ↦ omega (arith, law .end-last j u (sh .segment j u x) (omega (arith, a .buckets)))
-        ]
+  pub segment-some : {C S : ℕ} → Lawful sh C S → (j u x : ℕ) → 1 ≤ j → x ≤ u → (j < B → u < x + sh .size j) → 1 ≤ segmentNumber B K sizes j u x
+  segment-some law j u x low under near = rw (a .segment j u x) at (law .low j u x low under (rw (sym (a .buckets)) at near))

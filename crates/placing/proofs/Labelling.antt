@@ -2,7 +2,7 @@
 use Prim.Native.Nat.{ℕ, _+_, _≤_, _<_}
 use native.Mathlib.Omega.{arith}
 use mathlib.Core.Path.{_≡_, refl, sym, _∙_, ap}
-use mathlib.Core.Logic.{_≢_, inl, inr}
+use mathlib.Core.Logic.{_≢_}
 use mathlib.Core.List.{List}
 use lib.ListN.{length, getD, set}
 use lib.Seq.{set-getD}
@@ -10,10 +10,7 @@ use borrow.Author.Tests.{ne-eqb, ltb-true}
 use Rattle.theory.specs.Shape.{Shape}
 use Rattle.theory.specs.Search.{Mark, unlabelled, labelled, mark, below}
 use Rattle.theory.specs.Heap.{Heap, bound, bucketOf, keyOf, segmentOf, searchStart, heapLabel}
-use Rattle.theory.proofs.Cases.{mark-cases, split}
-use Rattle.theory.specs.Lawful.{Lawful}
-use Rattle.theory.specs.Invariants.{Bounds, Fits}
-use Rattle.theory.proofs.Heap.Buckets.{late-range}
+use Rattle.theory.proofs.Cases.{mark-cases}
 use Rattle.bounds.specs.Words.{boundsOf}
 use Rattle.bounds.proofs.Segments.{number-whole}
 use Rattle.buckets.specs.Words.{places, heads, placeBucket, Held}
@@ -26,18 +23,11 @@ use Rattle.state.specs.Slots.{slotWord, keyWord, SlotFits}
 use Rattle.state.specs.Stands.{Setting, Lists, Stands}
 use Rattle.state.specs.Tallies.{insertion, decrease, afterEvent}
 use Rattle.state.proofs.Places.Label.{place-is}
-use Rattle.state.proofs.Slots.{word-far, slot-bucket, slot-below, key-fits}
+use Rattle.state.proofs.Slots.{word-far, slot-bucket, slot-below, key-fits, key-end}
 use Rattle.state.proofs.Find.{words-few, isWord-low, isWord-other}
 use Rattle.state.proofs.Label.{label-enters, label-stands}
 use Rattle.placing.specs.Placing.{Formed, Entering, Entered, Standing, lists, Labels}
 use Rattle.state.proofs.Tallies.{label-insertion, label-decrease}
-
--- A key that fits its bucket is at most the end of its segment.
-key-end : {sh : Shape} {C S last : ℕ} {u : List ℕ} → Lawful sh C S → Bounds sh last u → {b x : ℕ} → Fits sh u b x → last ≤ x → x ≤ sh .end b (bound u b) (sh .segment b (bound u b) x)
-key-end {sh} {u = u} law bounds {b} {x} fit late = elim (split b (sh .buckets)) [
-  | inl h ↦ law .inside b (bound u b) x (fit .low) h (fit .under) (late-range bounds fit late h)
-  | inr h ↦ omega (arith, law .end-last b (bound u b) (sh .segment b (bound u b) x) h, fit .under)
-]
 
 -- Words that stay as they are: each node has the place word that it had.
 placed-same : {n slots K : ℕ} {w : List ℕ} → Frontier n slots K w → (v : ℕ) → Placed n slots K w w v (getD (places n w) v 0)
@@ -155,7 +145,7 @@ module _ {layout : Layout} {sizes : List ℕ} {X : Setting layout sizes} {before
         whole = λ t. X .agrees .segment b u (keyOf h v) ∙ number-whole B K sizes b u (keyOf h v) t;
         word = held-word on;
         below = rw (T .bounds b (f .first) (f .last))
-            (omega (arith, less, key-end (X .lawful) (L .inv .bounds) fit (omega (arith, L .late)), X .agrees .end b u (segmentOf sh h v)));
+            (omega (arith, less, key-end (X .lawful) (X .agrees) (L .inv .bounds) fit (omega (arith, L .late))));
       }
 
   -- A labelled node whose place word is still that of its key: the words stay as they are.

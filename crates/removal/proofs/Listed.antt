@@ -9,11 +9,10 @@ use Rattle.theory.specs.Heap.{Heap, bound, keyOf, boundsAfter, heapRemove}
 use Rattle.theory.proofs.Sums.{sum-at, sum-zero}
 use Rattle.theory.specs.Invariants.{Least, Fits, seg}
 use Rattle.theory.proofs.Cases.{same?}
-use Rattle.theory.proofs.Heap.Buckets.{late-range}
-use Rattle.bounds.specs.Words.{boundsOf, segmentNumber, segmentEnd, reboundWords}
+use Rattle.bounds.specs.Words.{boundsOf, segmentEnd, reboundWords}
 use Rattle.bounds.proofs.Words.{rebound-words-length, rebound-words-before, rebound-words-after}
-use Rattle.bounds.proofs.Agreement.{after-words-agree, end-reached}
-use Rattle.buckets.specs.Words.{places, placeWord}
+use Rattle.bounds.proofs.Agreement.{after-words-agree}
+use Rattle.buckets.specs.Words.{places, placeWord, heads}
 use Rattle.buckets.specs.Answer as Answer
 use Rattle.frontier.specs.Frontier.{Frontier, Placed}
 use Rattle.frontier.specs.Frontier.Laws.{bounds-kept, placed-here, placed-other}
@@ -22,7 +21,7 @@ use Rattle.state.specs.declared.State.{State}
 use Rattle.state.specs.Places.{isWord}
 use Rattle.state.specs.Slots.{slotOf, slotWord, keyWord}
 use Rattle.state.specs.Stands.{Setting, Lists, Stands}
-use Rattle.state.proofs.Slots.{word-far, slot-bucket, slot-below}
+use Rattle.state.proofs.Slots.{word-far, slot-bucket, slot-below, key-end}
 use Rattle.state.specs.Tallies.{looks, afterEvent}
 use Rattle.state.proofs.Tallies.{same-tally, same-insertions, same-decreases, same-shifts, same-looks}
 use Rattle.state.proofs.Find.{isWord-same, isWord-other, node, listed-word, later, key-word}
@@ -121,7 +120,7 @@ module _ {layout : Layout} {sizes : List ℕ} {X : Setting layout sizes} {before
       end-is : segmentEnd B K sizes j (bound (boundsOf n w₁) j) k ≡ segmentEnd B K sizes j (bound (h .bounds) j) k
       end-is = ap (λ (u : ℕ). segmentEnd B K sizes j u k) (bound-same j (b .low) (b .high))
 
-      words-long : 4 * n + 32 ≤ length w₁
+      words-long : heads n ≤ length w₁
       words-long = omega (arith, P .frontier .linked .fits .long)
 
       pub renews : Renews layout sizes w₁ j k (getD (l .distances) v 0)
@@ -132,14 +131,9 @@ module _ {layout : Layout} {sizes : List ℕ} {X : Setting layout sizes} {before
         high = b .high;
         segment = g .slot .high;
         positive = rw (key-of v low) (omega (arith, after-front));
-        end = rw (key-of v low, end-is) reaches;
+        end = rw (key-of v low, end-is)
+            (omega (arith, ap (segmentEnd B K sizes j (bound (h .bounds) j)) segment-is, key-end (X .lawful) (X .agrees) (R .resting .inv .bounds) fit (omega (arith, after-front))));
       }
-        where
-          reaches : key ≤ segmentEnd B K sizes j (bound (h .bounds) j) k
-          reaches =
-              let e : segmentNumber B K sizes j (bound (h .bounds) j) key ≡ k = sym (segment-is ∙ X .agrees .segment j (bound (h .bounds) j) key) in
-              rw e at (end-reached (X .agrees) (X .lawful) j (bound (h .bounds) j) key (fit .low) (fit .under)
-              (λ less. late-range (R .resting .inv .bounds) fit (omega (arith, after-front)) (omega (arith, X .agrees .buckets))))
 
       -- The bounds are set anew.
       abbrev w₂ : List ℕ

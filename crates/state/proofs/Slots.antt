@@ -14,7 +14,7 @@ use Rattle.theory.proofs.Cases.{split, same?}
 use Rattle.theory.specs.Lawful.{Lawful}
 use Rattle.theory.specs.Invariants.{Bounds, Fits}
 use Rattle.theory.proofs.Heap.Buckets.{late-range}
-use Rattle.bounds.specs.Words.{segmented, segmentNumber, Agrees}
+use Rattle.bounds.specs.Words.{segmented, segmentNumber, segmentEnd, Agrees}
 use Rattle.bounds.proofs.Segments.{segmented-below, number-whole, number-most}
 use Rattle.bounds.proofs.Bucket.{bucketFrom-same}
 use Rattle.buckets.specs.Words.{slotBucket}
@@ -63,6 +63,16 @@ key-fits {sh} {last = last} {B = B} {K = K} {sizes = sizes} {u = u} law agree bo
         go : (t : Bool) → segmented B K b ≡ t → t ≡ false
         go true q = absurd (omega (arith, segmented-below B K b q))
         go false q = refl
+
+-- It is at most the end of that segment.
+pub key-end : {sh : Shape} {C S last B K : ℕ} {sizes u : List ℕ} → Lawful sh C S → Agrees sh B K sizes → Bounds sh last u → {b x : ℕ} → Fits sh u b x → last ≤ x
+    → x ≤ segmentEnd B K sizes b (bound u b) (sh .segment b (bound u b) x)
+key-end {sh} {u = u} law agree bounds {b} {x} fit late =
+    let e = agree .end b (bound u b) (sh .segment b (bound u b) x) in
+    elim (split b (sh .buckets)) [
+      | inl h ↦ omega (arith, e, law .inside b (bound u b) x (fit .low) h (fit .under) (late-range bounds fit late h))
+      | inr h ↦ omega (arith, e, law .end-last b (bound u b) (sh .segment b (bound u b) x) h, fit .under)
+    ]
 
 -- The place of a key depends on the bounds of the buckets alone.
 module _ {B K : ℕ} {sizes u : List ℕ} {front x start : ℕ} (E : Enters B K sizes u front x start) (u′ : List ℕ) (same : (i : ℕ) → 1 ≤ i → i ≤ B → bound u i ≡ bound u′ i) where
