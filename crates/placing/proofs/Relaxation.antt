@@ -16,17 +16,13 @@ use Rattle.theory.proofs.Search.Invariant.{known-low, sums-finite}
 use Rattle.theory.specs.Invariants.{Scanning, known, linksOf}
 use Rattle.theory.proofs.Search.Relaxing.{head-node, sum-few}
 use Rattle.theory.proofs.Heap.Run.{improving}
+use Rattle.theory.proofs.Search.Counts.{linksOf-le}
 use Rattle.state.specs.declared.Layout.{Layout}
 use Rattle.state.specs.declared.State.{State}
 use Rattle.state.specs.Stands.{Setting, Lists}
 use Rattle.state.proofs.Tallies.{same-insertions, same-decreases}
 use Rattle.theory.proofs.Lists.{getD-inside}
 use Rattle.placing.specs.Placing.{Labels, Relaxes}
-
-links-low : (N : Network) (v : ℕ) (m : Mark) → linksOf N v m ≤ length (N .out v)
-links-low N v unlabelled = omega arith
-links-low N v labelled = omega arith
-links-low N v scanned = omega arith
 
 module _ {layout : Layout} {sizes : List ℕ} {X : Setting layout sizes} {before : List ℕ} {u : ℕ} {l : Link} {ls : List Link} {h : Heap} {lists : Lists} {s : State}
     (R : Relaxes X before u l ls h lists s) where
@@ -64,7 +60,7 @@ module _ {layout : Layout} {sizes : List ℕ} {X : Setting layout sizes} {before
   counts =
       let i = scanning .inv .insertions-count in
       let a = sum-mono (N .nodes) (λ v. known (mark (h .search) v)) (λ v. 1) (λ v _. known-low (mark (h .search) v)) in
-      let b = sum-mono (N .nodes) (λ v. linksOf N v (mark (h .search) v)) (λ v. length (N .out v)) (λ v _. links-low N v (mark (h .search) v)) in
+      let b = sum-mono (N .nodes) (λ v. linksOf N v (mark (h .search) v)) (λ v. length (N .out v)) (λ v _. linksOf-le N v (mark (h .search) v)) in
       (omega (arith, sum-ones (N .nodes), X .admissible .few-nodes), omega (arith, scanning .inv .updates-count, X .admissible .links, X .admissible .few-arcs))
 
   pub relax-labels : s .front + l .cost < getD (lists .distances) (l .head) 0 → Labels X before h lists s (l .head) (s .front + l .cost)

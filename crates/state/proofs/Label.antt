@@ -6,8 +6,7 @@ use mathlib.Core.Bool.{true, cond}
 use mathlib.Core.Logic.{_≢_, ⊎-elim}
 use mathlib.Core.List.{List}
 use lib.Dec.{eqb}
-use lib.ListN.{length, getD, set}
-use lib.Seq.{getD-set-same, getD-set-other}
+use lib.ListN.{getD, set}
 use borrow.Author.Tests.{ne-eqb, ltb-true}
 use Rattle.theory.specs.Shape.{Shape}
 use Rattle.theory.specs.Search.{Mark, unlabelled, labelled, scanned, mark, below, label}
@@ -19,8 +18,8 @@ use Rattle.theory.proofs.Heap.Label.{put}
 use Rattle.bounds.specs.Words.{segmentNumber}
 use Rattle.bounds.proofs.Bucket.{bucketFrom-same}
 use Rattle.buckets.specs.Words
-use Rattle.buckets.specs.Words.Laws.{places-length}
 use Rattle.frontier.specs.Frontier.{Placed}
+use Rattle.frontier.specs.Frontier.Laws.{placed-here, placed-other}
 use Rattle.state.specs.declared.Layout.{Layout}
 use Rattle.state.specs.declared.State.{State}
 use Rattle.state.specs.Places.{isWord}
@@ -96,14 +95,11 @@ module _ {layout : Layout} {sizes : List ℕ} (X : Setting layout sizes) {before
   node = omega (arith, lab .node, X .nodes)
 
   module _ {w′ : List ℕ} (P : Placed n (layout .slots) K (l .words) w′ v word) where
-    places-long : v < length (Words.places n (l .words))
-    places-long = omega (arith, places-length n (l .words) (omega (arith, T .frontier .linked .fits .long)), node)
-
     new-here : getD (Words.places n w′) v 0 ≡ word
-    new-here = ap (λ (p : List ℕ). getD p v 0) (P .place) ∙ getD-set-same (Words.places n (l .words)) v word 0 places-long
+    new-here = placed-here (T .frontier) P node
 
     new-other : (w : ℕ) → w ≢ v → getD (Words.places n w′) w 0 ≡ getD (Words.places n (l .words)) w 0
-    new-other w q = ap (λ (p : List ℕ). getD p w 0) (P .place) ∙ getD-set-other (Words.places n (l .words)) v w word 0 q
+    new-other = placed-other (T .frontier) P
 
     -- The node was not at the current key.
     old-word : isWord 1 (getD (Words.places n (l .words)) v 0) ≡ 0

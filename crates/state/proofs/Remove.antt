@@ -7,7 +7,7 @@ use mathlib.Core.Logic.{_≢_, inl, inr, ⊎-elim}
 use mathlib.Core.List.{List, [], _∷_, _++_, append-assoc}
 use lib.Dec.{ltb}
 use lib.ListN.{length, getD, set, drop, length-append}
-use lib.Seq.{getD-set-same, getD-set-other, drop-cons, set-append-seam}
+use lib.Seq.{drop-cons, set-append-seam}
 use borrow.Author.Tests.{eq-eqb, ne-eqb, lt-ltb, le-ltb}
 use Rattle.model.specs.Answers.{wordsAfter}
 use Rattle.model.specs.declared.Check.the-variants.{Passed}
@@ -25,10 +25,10 @@ use Rattle.theory.proofs.Heap.Remove.{falls}
 use Rattle.bounds.specs.Words.{boundsOf, segmentNumber, segmentLooks}
 use Rattle.bounds.proofs.Bucket.{bucketFrom-same}
 use Rattle.buckets.specs.Words
-use Rattle.buckets.specs.Words.Laws.{places-length}
 use Rattle.buckets.specs.Answer.{InSlot, InBucket}
 use Rattle.buckets.specs.Answer as Answer
 use Rattle.frontier.specs.Frontier.{Frontier, FirstCurrent}
+use Rattle.frontier.specs.Frontier.Laws.{placed-here, placed-other}
 use Rattle.state.specs.declared.Layout.{Layout}
 use Rattle.state.specs.declared.State.{State}
 use Rattle.state.specs.Places.{placeOf, isWord, withWord}
@@ -74,9 +74,6 @@ module _ {layout : Layout} {sizes : List ℕ} (X : Setting layout sizes) {before
   abbrev place : ℕ → ℕ
   place v = getD (Words.places n (l .words)) v 0
 
-  places-long : length (Words.places n (l .words)) ≡ n
-  places-long = places-length n (l .words) (omega (arith, T .frontier .linked .fits .long))
-
   roster-after : (j k d v : ℕ) → Labelled (h .search) v → set (l .roster) (s .reached) v
       ≡ wordsAfter Passed (heapRemove sh j k d v h .search .roster) before
   unfolding heapRemove remove
@@ -102,10 +99,10 @@ module _ {layout : Layout} {sizes : List ℕ} (X : Setting layout sizes) {before
     fit = current-fits X T rest inv v (min .member) (min .key)
 
     here : getD (Words.places n w′) v 0 ≡ 2
-    here = ap (λ (p : List ℕ). getD p v 0) (F .placed .place) ∙ getD-set-same (Words.places n (l .words)) v 2 0 (omega (arith, places-long, F .below))
+    here = placed-here (T .frontier) (F .placed) (F .below)
 
     there : (w : ℕ) → w ≢ v → getD (Words.places n w′) w 0 ≡ place w
-    there w q = ap (λ (p : List ℕ). getD p w 0) (F .placed .place) ∙ getD-set-other (Words.places n (l .words)) v w 2 0 q
+    there = placed-other (T .frontier) (F .placed)
 
     other-place : (w : ℕ) → w < n → w ≢ v → place w ≡ placeOf (slotWord K) sh d (heapRemove sh 1 k d v h) w
     other-place w low q = T .places w low ∙ sym (mark-cases (mark (h .search) w)

@@ -21,7 +21,7 @@ pub record SearchCounts (N : Network) (m : ℕ) (s : Search) : Type 0 where
   pub decreases : s .decreases + length (s .roster) ≤ m + 1
 
 -- The links of the scanned nodes are no more than the links.
-linksOf-le : (N : Network) (v : ℕ) (k : Mark) → linksOf N v k ≤ length (N .out v)
+pub linksOf-le : (N : Network) (v : ℕ) (k : Mark) → linksOf N v k ≤ length (N .out v)
 linksOf-le N v unlabelled = omega arith
 linksOf-le N v labelled = omega arith
 linksOf-le N v scanned = omega arith
