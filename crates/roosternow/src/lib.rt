@@ -1,5 +1,7 @@
 // The interface for C (include/roosternow.h): each function hands numbers and lists to an entry point, and writes what it answers to a
 // lent array of fixed size (document 01, "What a call returns").
+mod text;
+
 use answer_words::read_words;
 use answer_words::route_words;
 use answer_words::run_words;
@@ -7,7 +9,6 @@ use model::Node;
 ghost use mathlib.Core.Path.{_≡_};
 ghost use Rattle.theory.specs.Runs.{inputs};
 ghost use Rattle.runs.specs.Promise.{lent};
-ghost use Rattle.planning.specs.Planning.{planLists, PlanningPromised};
 ghost use Rattle.roosternow.specs.Handing.{archiveVersion, OneLevelHanded, TwoLevelHanded, RouteHanded, ReadHanded};
 
 const VERSION: u32 = 2000;
@@ -131,35 +132,4 @@ pub extern "C" fn roosternow_read(
 {
     let answer = reader::read(bytes, starts, heads, costs);
     *numbers = read_words(answer);
-}
-
-// What `plan` prints for the bytes of a planning file: it is written to the front of the output, and its length is given back.
-#[no_mangle]
-pub extern "C" fn roosternow_answer(
-    bytes: &[u8],
-    starts: &mut [u32; 513],
-    heads: &mut [u32; 2048],
-    costs: &mut [u32; 2048],
-    distances: &mut [u32; 512],
-    parents: &mut [u32; 512],
-    roster: &mut [u32; 512],
-    work: &mut [u32; 2432],
-    output: &mut [u8; 33280],
-) -> usize
-    ensures { λ r. ⌜ PlanningPromised (now (bytes .entry))
-        (planLists (now (starts .entry)) (now (heads .entry)) (now (costs .entry)) (now (distances .entry)) (now (parents .entry)) (now (roster .entry)) (now (work .entry)))
-        (planLists (now (starts .exit)) (now (heads .exit)) (now (costs .exit)) (now (distances .exit)) (now (parents .exit)) (now (roster .exit)) (now (work .exit)))
-        (now (output .entry)) (now (output .exit)) r ⌝ }
-{
-    planning::answer(
-        bytes,
-        starts,
-        heads,
-        costs,
-        distances,
-        parents,
-        roster,
-        work,
-        output,
-    )
 }
