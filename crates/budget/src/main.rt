@@ -4,6 +4,6 @@ fn main() {
     let mut input = [0u8; 64];
     let mut output = [0u8; 256];
     let got = io::read_full(0, &mut input);
-    let length = budgets::answer(&input[..got], &mut output);
-    io::write_all(1, &output[..length]);
+    let written = budgets::answer(&input[..got], &mut output);
+    io::write_all(1, &output[..written]);
 }

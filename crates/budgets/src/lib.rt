@@ -137,10 +137,10 @@ fn answer_in(bytes: &[u8], output: &mut [u8]) -> usize
     ensures { λ r. ⌜ Writes 0 (budgetText (now (bytes .entry))) (now (output .entry)) (now (output .exit)) r ⌝ }
 {
     let mut size = [0u32; 4];
-    let LineRead::Taken { length } = fields::reading::line_at(bytes, 0, b',', &mut size) else {
+    let LineRead::Taken { taken } = fields::reading::line_at(bytes, 0, b',', &mut size) else {
         return report::write_refusal(output, 11, 1);
     };
-    let check = size_check(size[0], size[1], size[2], size[3], bytes.len() - length);
+    let check = size_check(size[0], size[1], size[2], size[3], bytes.len() - taken);
     if let Check::Fault { number, place } = check {
         return report::write_refusal(output, number, place);
     }

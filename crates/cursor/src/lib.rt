@@ -16,7 +16,7 @@ pub enum ArcLine {
         tail: u32,
         head: u32,
         cost: u32,
-        length: usize,
+        taken: usize,
     },
 }
 
@@ -29,7 +29,7 @@ pub enum HeaderLine {
         ceiling: u32,
         source: u32,
         segments: u32,
-        length: usize,
+        taken: usize,
     },
 }
 

@@ -13,14 +13,14 @@ pub fn read_arc(bytes: &[u8], at: usize) -> ArcLine
     ensures { λ r. ⌜ r ≡ arcLine (drop at (now (bytes .entry))) ⌝ }
 {
     let mut values = [0u32; 3];
-    let LineRead::Taken { length } = line_at(bytes, at, b',', &mut values) else {
+    let LineRead::Taken { taken } = line_at(bytes, at, b',', &mut values) else {
         return ArcLine::NoArc;
     };
     ArcLine::ArcRead {
         tail: values[0],
         head: values[1],
         cost: values[2],
-        length,
+        taken,
     }
 }
 
@@ -29,7 +29,7 @@ pub fn read_header(bytes: &[u8], at: usize) -> HeaderLine
     ensures { λ r. ⌜ r ≡ headerLine (drop at (now (bytes .entry))) ⌝ }
 {
     let mut values = [0u32; 5];
-    let LineRead::Taken { length } = line_at(bytes, at, b',', &mut values) else {
+    let LineRead::Taken { taken } = line_at(bytes, at, b',', &mut values) else {
         return HeaderLine::NoHeader;
     };
     HeaderLine::HeaderRead {
@@ -38,6 +38,6 @@ pub fn read_header(bytes: &[u8], at: usize) -> HeaderLine
         ceiling: values[2],
         source: values[3],
         segments: values[4],
-        length,
+        taken,
     }
 }

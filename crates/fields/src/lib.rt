@@ -5,11 +5,11 @@ pub mod writing;
 // A field's value, and the number of bytes that it takes with the byte that ends it.
 pub enum Field {
     NoField,
-    Value { value: u32, length: usize },
+    Value { value: u32, taken: usize },
 }
 
 // The number of bytes that a line takes.
 pub enum LineRead {
     Missing,
-    Taken { length: usize },
+    Taken { taken: usize },
 }

@@ -25,7 +25,7 @@ pub fn field_at(bytes: &[u8], at: usize, end: u8) -> Field
     if (count >= 1) & (count <= 7) & alone & ended {
         Field::Value {
             value: read.value,
-            length: count + 1,
+            taken: count + 1,
         }
     } else {
         Field::NoField
@@ -45,14 +45,14 @@ pub fn line_at(bytes: &[u8], at: usize, separator: u8, values: &mut [u32]) -> Li
     let mut i = 0;
     while i < count {
         let end = end_of(i, count, separator);
-        let Field::Value { value, length } = field_at(bytes, next, end) else {
+        let Field::Value { value, taken } = field_at(bytes, next, end) else {
             return LineRead::Missing;
         };
         values[i] = value;
-        next += length;
+        next += taken;
         i += 1;
     }
-    LineRead::Taken { length: next - at }
+    LineRead::Taken { taken: next - at }
 }
 
 // What ends field i of so many.

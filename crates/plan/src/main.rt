@@ -11,7 +11,7 @@ fn main() {
     let mut work = [0u32; 2432];
     let mut output = [0u8; 33280];
     let got = io::read_full(0, &mut input);
-    let length = planning::answer(
+    let written = planning::answer(
         &input[..got],
         &mut starts,
         &mut heads,
@@ -22,5 +22,5 @@ fn main() {
         &mut work,
         &mut output,
     );
-    io::write_all(1, &output[..length]);
+    io::write_all(1, &output[..written]);
 }

@@ -90,7 +90,7 @@ module _ (bytes : List ℕ) (starts heads costs : ℕ) where
       }
 
   line-runnable : (line : HeaderLine) → headerLineCheck line bytes starts heads costs ≡ Passed
-      → Runnable (headerNumbers line) (linesArcs (headerNumbers line .arcs) (drop (headerNumbers line .length) bytes)) starts heads costs
+      → Runnable (headerNumbers line) (linesArcs (headerNumbers line .arcs) (drop (headerNumbers line .taken) bytes)) starts heads costs
   line-runnable NoHeader e = absurd (let z : _≡_ {A = ℕ} 0 1 = cc in omega arith)
   line-runnable (HeaderRead n m C source K taken) e = header-runnable n m C source K taken (passed-all _ e)
 

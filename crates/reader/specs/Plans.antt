@@ -20,18 +20,18 @@ pub record Header : Type 0 where
   pub ceiling : ℕ
   pub source : ℕ
   pub segments : ℕ
-  pub length : ℕ
+  pub taken : ℕ
 
 -- The numbers of line 1; a file without one is refused, and its numbers count as 0 (document 01, "What a call returns").
 abbrev pub headerNumbers : HeaderLine → Header
-headerNumbers NoHeader = record { nodes = 0; arcs = 0; ceiling = 0; source = 0; segments = 0; length = 0 }
+headerNumbers NoHeader = record { nodes = 0; arcs = 0; ceiling = 0; source = 0; segments = 0; taken = 0 }
 headerNumbers (HeaderRead n m C source K taken) = record {
   nodes = n;
   arcs = m;
   ceiling = C;
   source = source;
   segments = K;
-  length = taken;
+  taken = taken;
 }
 
 -- Line 1 of a planning file (document 01, "Planning file").
@@ -56,7 +56,7 @@ linesArcs (suc left) bytes = arcAndBehind (arcLine bytes) (λ taken. linesArcs l
 
 -- The m arcs of a planning file, in the order of its lines (document 01, "Planning file").
 abbrev pub planArcs : List ℕ → List PlanArc
-planArcs bytes = linesArcs (planHeader bytes .arcs) (drop (planHeader bytes .length) bytes)
+planArcs bytes = linesArcs (planHeader bytes .arcs) (drop (planHeader bytes .taken) bytes)
 
 -- ---- the three lists of a map, from its arcs in any order
 

@@ -87,7 +87,7 @@ fn arcs_check(bytes: &[u8], at: usize, n: u32, ceiling: u32, arcs: u32) -> Check
             tail,
             head,
             cost,
-            length,
+            taken,
         } = arc_line_at(bytes, line)
         else {
             return Check::Fault {
@@ -99,7 +99,7 @@ fn arcs_check(bytes: &[u8], at: usize, n: u32, ceiling: u32, arcs: u32) -> Check
         let Check::Passed = found else {
             return found;
         };
-        line += length;
+        line += taken;
         before = tail;
         i += 1;
     }

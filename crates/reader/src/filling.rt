@@ -30,7 +30,7 @@ pub fn fill(
             tail,
             head,
             cost,
-            length,
+            taken,
         } = arc_line_at(bytes, line)
         else {
             return;
@@ -40,7 +40,7 @@ pub fn fill(
         heads[i] = head;
         costs[i] = cost;
         next = end;
-        line += length;
+        line += taken;
         i += 1;
     }
     fill_between(starts, next, n as usize + 1, arcs);

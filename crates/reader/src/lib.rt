@@ -33,7 +33,7 @@ pub fn read(bytes: &[u8], starts: &mut [u32], heads: &mut [u32], costs: &mut [u3
         ceiling,
         source,
         segments,
-        length,
+        taken,
     } = cursor::header_line_at(bytes, 0)
     else {
         return PlanAnswer::Refused {
@@ -44,7 +44,7 @@ pub fn read(bytes: &[u8], starts: &mut [u32], heads: &mut [u32], costs: &mut [u3
     let source = Node(source);
     let check = checking::plan_check(
         bytes,
-        length,
+        taken,
         nodes,
         arcs,
         ceiling,
@@ -57,7 +57,7 @@ pub fn read(bytes: &[u8], starts: &mut [u32], heads: &mut [u32], costs: &mut [u3
     if let Check::Fault { number, place } = check {
         return PlanAnswer::Refused { number, place };
     }
-    filling::fill(bytes, length, nodes, arcs, starts, heads, costs);
+    filling::fill(bytes, taken, nodes, arcs, starts, heads, costs);
     PlanAnswer::Read {
         nodes,
         arcs,

@@ -13,7 +13,7 @@ fn main() {
     let mut route = [0u32; 512];
     let mut output = [0u8; 1056800];
     let got = io::read_full(0, &mut input);
-    let length = itineraries::answer(
+    let written = itineraries::answer(
         &input[..got],
         &mut starts,
         &mut heads,
@@ -25,5 +25,5 @@ fn main() {
         &mut route,
         &mut output,
     );
-    io::write_all(1, &output[..length]);
+    io::write_all(1, &output[..written]);
 }

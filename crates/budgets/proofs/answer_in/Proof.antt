@@ -11,10 +11,10 @@ use Rattle.budgets.proofs.answer_in.Tie as tie
 abbrev start : tie.After-line-at → tie.Start
 start c = search needs
 
-abbrev line : tie.After-length → tie.After-line-at
+abbrev line : tie.After-taken → tie.After-line-at
 line c = search needs
 
-abbrev found : tie.After-size-check → tie.After-length
+abbrev found : tie.After-size-check → tie.After-taken
 found c = search needs
 
 abbrev fault-of : tie.After-check → tie.After-size-check
@@ -35,9 +35,9 @@ returns c =
 
 sub-size-check : tie.Need-sub-size-check
 sub-size-check c =
-    let size : tie.After-length = search needs in
+    let size : tie.After-taken = search needs in
     let read = line size in
-    line-inside (start read .args .bytes .now) _ (sym (read .line-at .ensures .0) ∙ size .length .given .1) (read .line-at .ensures .1)
+    line-inside (start read .args .bytes .now) _ (sym (read .line-at .ensures .0) ∙ size .taken .given .1) (read .line-at .ensures .1)
 
 returns-2 : tie.Need-returns-2
 returns-2 c =
@@ -47,7 +47,7 @@ returns-2 c =
     let size = found checked in
     let read = line size in
     writes-same
-    (fault-text (start read .args .bytes .now) _ (sym (read .line-at .ensures .0) ∙ size .length .given .1) (read .line-at .ensures .1)
+    (fault-text (start read .args .bytes .now) _ (sym (read .line-at .ensures .0) ∙ size .taken .given .1) (read .line-at .ensures .1)
     (sym (checked .size-check .ensures) ∙ fault .check .given .1)) (told .write-refusal2 .ensures)
 
 write-size-requires : tie.Need-write-size-requires
@@ -56,7 +56,7 @@ write-size-requires c κs =
     let checked = passed-of passed in
     let size = found checked in
     let read = line size in (
-      passed-size (start read .args .bytes .now) _ (sym (read .line-at .ensures .0) ∙ size .length .given .1) (read .line-at .ensures .1)
+      passed-size (start read .args .bytes .now) _ (sym (read .line-at .ensures .0) ∙ size .taken .given .1) (read .line-at .ensures .1)
           (sym (checked .size-check .ensures) ∙ passed .enum-told2 .given .1),
       start read .pre,
     )
@@ -69,7 +69,7 @@ returns-3 c =
     let size = found checked in
     let read = line size in
     writes-same
-    (passed-text (start read .args .bytes .now) _ (sym (read .line-at .ensures .0) ∙ size .length .given .1) (read .line-at .ensures .1)
+    (passed-text (start read .args .bytes .now) _ (sym (read .line-at .ensures .0) ∙ size .taken .given .1) (read .line-at .ensures .1)
     (sym (checked .size-check .ensures) ∙ passed .enum-told2 .given .1)) (written .write-size .ensures)
 
 pub answer-in-spec : {M : Type 1} → statement M

@@ -11,8 +11,8 @@ returns c = header-missing _ (sym (c .before .before .before .line-at .ensures .
 returns-2 : tie.Need-returns-2
 returns-2 c =
     let asked : tie.After-line-at = search needs in
-    let told : tie.After-length = search needs in
-    header-read _ _ (sym (asked .line-at .ensures .0) ∙ told .length .given .1) (asked .line-at .ensures .1)
+    let told : tie.After-taken = search needs in
+    header-read _ _ (sym (asked .line-at .ensures .0) ∙ told .taken .given .1) (asked .line-at .ensures .1)
 
 pub read-header-spec : {M : Type 1} → statement M
 read-header-spec =
