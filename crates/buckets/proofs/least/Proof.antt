@@ -62,9 +62,6 @@ loop-again c =
     let e : tie.After-earlier Inv-loop μ-loop = search needs in
     walk-next (inside e .before .loop .inv) (inside e .loop-test .taken) (e .earlier .result) (e .earlier .ensures) .0
 
-cast-t16 : tie.Need-cast-t16 Inv-loop μ-loop
-cast-t16 c = omega (arith, c .before .loop .inv .in-slot .0)
-
 returns : tie.Need-returns Inv-loop μ-loop
 returns c = walk-end (c .before .loop .inv) (c .loop-test .left)
 
@@ -91,5 +88,5 @@ least-spec =
     shared-slice-read-at-2
     loop-less
     loop-again
-    cast-t16
+    (λ c. omega (arith, c .before .loop .inv .in-slot .0))
     returns)

@@ -1,5 +1,5 @@
 -- `linking::take_first` meets its contract: the head word tells, and is the one that points to the node. Assumes nothing.
-use Prim.Native.Nat.{ℕ, suc, _+_, _*_, _-_, _≤_}
+use Prim.Native.Nat.{ℕ, suc, _+_, _*_, _-_, _≤_, _<_}
 use native.Mathlib.Omega.{arith}
 use mathlib.Core.Path.{_≡_, refl, sym, _∙_}
 use mathlib.Core.List.{List}
@@ -64,8 +64,8 @@ unlink-requires c κs =
     let r = take-ready (d .pre .0) (v d k) (in-slot d k .0) (held d k) e in
     (r .0, (r .1, ((in-slot d k .0, sym (home d k) ∙ sym (take-before (d .pre .0) (v d k) (in-slot d k .0) (held d k) e)), r .2)))
 
-cast-found : tie.Need-cast-t13
-cast-found c = let some : tie.Else1 = search needs in let d = start some in omega (arith, head-le (d .pre .0) (d .args .slot) (d .pre .1 .0), d .pre .0 .fits .small)
+first-few : (d : tie.Start) → getD (d .args .words .now) (4 * d .args .n + 32 + d .args .slot) 0 < 4294967296
+first-few d = omega (arith, head-le (d .pre .0) (d .args .slot) (d .pre .1 .0), d .pre .0 .fits .small)
 
 returns-2 : tie.Need-returns-2
 returns-2 c =
@@ -89,6 +89,6 @@ take-first-spec =
     (λ c. search needs)
     count-out-requires
     unlink-requires
-    cast-found
+    (λ c. let some : tie.Else1 = search needs in omega (arith, first-few (start some)))
     (λ c. search needs)
     returns-2)

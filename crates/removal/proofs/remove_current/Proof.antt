@@ -1,4 +1,5 @@
 -- `removal::remove_current` meets its contract.
+use Prim.Native.Nat.{_+_, _≤_}
 use native.Mathlib.Omega.{arith}
 use mathlib.Core.Path.{refl}
 use Rattle.removal.proofs.Counts.{reached-low, roster-long, nodes-few, looks-few, looks-most}
@@ -21,8 +22,8 @@ take-current-requires c κs = let s : tie.Start = search needs in (s .pre .0 .re
 slice-write-roster : tie.Need-slice-write-roster
 slice-write-roster c = let s : tie.Start = search needs in omega (arith, reached-low (s .pre .0 .rests), roster-long (s .pre .0 .rests))
 
-add-reached : tie.Need-add-t21
-add-reached c = let s : tie.Start = search needs in omega (arith, reached-low (s .pre .0 .rests), nodes-few (s .pre .0 .rests))
+reached-few : (s : tie.Start) → s .args .state .reached + 1 ≤ 4096
+reached-few s = omega (arith, reached-low (s .pre .0 .rests), nodes-few (s .pre .0 .rests))
 
 -- The places that the answers name: the start, the bound, the segment of the current key.
 abbrev start : tie.After-bound-of → tie.Start
@@ -62,7 +63,7 @@ remove-current-spec =
     (λ c. search needs)
     slice-write-roster
     (λ c. search needs)
-    add-reached
+    (λ c. let s : tie.Start = search needs in omega (arith, reached-few s))
     looked-requires
     (λ c. search needs)
     (λ c. search needs)

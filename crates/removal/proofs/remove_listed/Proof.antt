@@ -1,5 +1,5 @@
 -- `removal::remove_listed` meets its contract.
-use Prim.Native.Nat.{ℕ, _+_, _-_, _*_, _<_}
+use Prim.Native.Nat.{ℕ, _+_, _-_, _*_, _≤_, _<_}
 use native.Mathlib.Omega.{arith}
 use lib.ListN.{getD}
 use denote.Ref.{now}
@@ -100,11 +100,8 @@ looks-of-requires c κs =
     let slot = g .lowest-segment .ensures .slot in
     (omega (arith, slot .last, p .0 .setting .agrees .sized .few), omega (arith, slot .high, p .0 .setting .agrees .most))
 
-add-reached : tie.Need-add-t28
-add-reached c =
-    let k : tie.After-looks-of = search needs in
-    let R = start (in-bucket (in-segment (chosen (left (renewed k))))) .pre .0 .rests in
-    omega (arith, reached-low R, nodes-few R)
+reached-few : (s : tie.Start) → s .args .state .reached + 1 ≤ 4096
+reached-few s = omega (arith, reached-low (s .pre .0 .rests), nodes-few (s .pre .0 .rests))
 
 looked-requires : tie.Need-looked-requires
 looked-requires c κs =
@@ -185,7 +182,7 @@ remove-listed-spec =
     (λ c. search needs)
     slice-write-roster
     looks-of-requires
-    add-reached
+    (λ c. let k : tie.After-looks-of = search needs in omega (arith, reached-few (start (in-bucket (in-segment (chosen (left (renewed k))))))))
     looked-requires
     distribute-requires
     (λ c. search needs)

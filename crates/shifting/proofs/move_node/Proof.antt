@@ -1,4 +1,5 @@
 -- `shifting::move_node` meets its contract.
+use Prim.Native.Nat.{_+_, _≤_}
 use native.Mathlib.Omega.{arith}
 use mathlib.Core.Path.{refl}
 use Rattle.placing.proofs.Labelling.{entered-low}
@@ -10,8 +11,8 @@ use Rattle.shifting.proofs.move_node.Tie as tie
 abbrev start : tie.After-enter → tie.Start
 start c = search needs
 
-add-current : tie.Need-add-t13
-add-current c = let e : tie.After-enter = search needs in omega (arith, start e .pre .current-few, entered-low (e .enter .ensures))
+current-few : (e : tie.After-enter) → start e .args .state .current + e .enter .result ≤ 4097
+current-few e = omega (arith, start e .pre .current-few, entered-low (e .enter .ensures))
 
 returns : tie.Need-returns
 returns c =
@@ -26,7 +27,7 @@ move-node-spec =
     (λ c. search needs)
     (λ c. search needs)
     (λ c κs. search needs)
-    add-current
+    (λ c. let e : tie.After-enter = search needs in omega (arith, current-few e))
     (λ c κs. search needs)
     (λ c. search needs)
     returns)
