@@ -1,4 +1,4 @@
--- No accepted run exceeds the bounds of its size. Assumes nothing.
+-- The heap operations that an accepted run gives back, and their bound; no accepted run exceeds the bounds of its size. Assumes nothing.
 use Prim.Native.Nat.{ℕ, _+_, _-_, _*_, _≤_}
 use native.Mathlib.Omega.{arith}
 use native.Mathlib.Nat.{mul-le-mul, le-refl}
@@ -26,6 +26,13 @@ buckets-some : (L : Levels) (C : ℕ) → 1 ≤ heapBuckets L C
 buckets-some one C = one-some C
 buckets-some (two K) C = two-some C K
 
+-- A bound for r reached nodes, of which there are at most R, as one for R.
+for-most : (number r R m k : ℕ) → 1 ≤ k → r ≤ R → number + r ≤ r * k + m + 1 → number ≤ R * (k - 1) + m + 1
+for-most number r R m k some few bound =
+    let split : r * k ≡ r * (k - 1) + r = let e : k ≡ k - 1 + 1 = omega arith in ap (λ (j : ℕ). r * j) e ∙ omega arith in
+    let most : r * (k - 1) ≤ R * (k - 1) = mul-le-mul few (le-refl (k - 1)) in
+    omega (arith, bound)
+
 module _ {M : Map} {source B L : ℕ} {h : Heap} (counts : BoundedCounts M source B L h) (some : 1 ≤ B) where
   abbrev r : ℕ
   r = length (h .search .roster)
@@ -37,19 +44,13 @@ module _ {M : Map} {source B L : ℕ} {h : Heap} (counts : BoundedCounts M sourc
   decreases-within = omega (arith, counts .decreases, some-listed (h .search .roster) (counts .roster .complete source ([], Route.here)))
 
   placements-within : placements h ≤ mostPlacements (M .nodes) (arcs M) B
-  placements-within =
-      let split : r * B ≡ r * (B - 1) + r = let e : B ≡ B - 1 + 1 = omega arith in ap (λ (k : ℕ). r * k) e ∙ omega arith in
-      let most : r * (B - 1) ≤ mostReached (M .nodes) (arcs M) * (B - 1) = mul-le-mul reached (le-refl (B - 1)) in
-      omega (arith, counts .placed)
+  placements-within = for-most _ r _ _ B some reached (counts .placed)
 
   looks-within : h .looks ≤ mostLooks (M .nodes) (arcs M) L
   looks-within = let most : r * L ≤ mostReached (M .nodes) (arcs M) * L = mul-le-mul reached (le-refl L) in omega (arith, counts .looked)
 
   operations-within : operations h ≤ mostOperations (M .nodes) (arcs M) B L
-  operations-within =
-      let split : r * (B + L) ≡ r * (B + L - 1) + r = let e : B + L ≡ B + L - 1 + 1 = omega arith in ap (λ (k : ℕ). r * k) e ∙ omega arith in
-      let most : r * (B + L - 1) ≤ mostReached (M .nodes) (arcs M) * (B + L - 1) = mul-le-mul reached (le-refl (B + L - 1)) in
-      omega (arith, counts .operated)
+  operations-within = for-most _ r _ _ (B + L) (omega arith) reached (counts .operated)
 
 -- The most heap operations in document 01's B and K: with R nodes reached at the most, R (2 B - 1) + m + 1 and R (2 B + K - 1) + m + 1.
 pub one-level-most-operations : (n m B : ℕ) → mostOperations n m B B ≡ mostReached n m * (2 * B - 1) + m + 1
@@ -58,9 +59,11 @@ one-level-most-operations n m B = let e : B + B - 1 ≡ 2 * B - 1 = omega arith 
 pub two-level-most-operations : (n m B K : ℕ) → mostOperations n m B (B + K) ≡ mostReached n m * (2 * B + K - 1) + m + 1
 two-level-most-operations n m B K = let e : B + (B + K) - 1 ≡ 2 * B + K - 1 = omega arith in ap (λ (k : ℕ). mostReached n m * k + m + 1) e
 
-module _ (L : Levels) (I : Inputs) (l l′ : Lent) {answer : RunAnswer} (e : firstFault (runChecks L I (lengthsOf l)) ≡ Passed) (P : Promised L I answer l l′) where
+-- Of a run that has passed its checks.
+module _ (L : Levels) (I : Inputs) (l l′ : Lent) {answer : RunAnswer}
+    (passed : firstFault (runChecks L I (lengthsOf l)) ≡ Passed) (promised : Promised L I answer l l′) where
   accepted : Ran L I Passed answer l l′
-  accepted = subst (λ (k : Check). Ran L I k answer l l′) e P
+  accepted = subst (λ (k : Check). Ran L I k answer l l′) passed promised
 
   -- The heap operations given back are those of the steps.
   pub operations-given : operationsOf (numbersOf answer .counts) ≡ operations (stepsOf L I)

@@ -81,12 +81,15 @@ looks-fit {r} {L} a b = let most : r * L ≤ 4096 * 128 = mul-le-mul a b in omeg
 
 pub operations-fit : {r B L m : ℕ} → Small r B m → L ≤ 128 → r * (B + L - 1) + m + 1 ≤ 1048576
 operations-fit {r} {B} {L} {m} S b =
-    let most : r * (B + L - 1) ≤ 4096 * 149 = let less : B + L - 1 ≤ 149 = omega (arith, S .few) in mul-le-mul (S .few-nodes) less in omega (arith, S .few-arcs)
+    let less : B + L - 1 ≤ 149 = omega (arith, S .few) in
+    let most : r * (B + L - 1) ≤ 4096 * 149 = mul-le-mul (S .few-nodes) less in
+    omega (arith, S .few-arcs)
 
 -- ---- the text
 
 pub bounds-whole : (word : List ℕ) (buckets decreases placements looks operations : ℕ)
-    → ended word comma ++ ended (decimal buckets) comma ++ ended (decimal decreases) comma ++ ended (decimal placements) comma ++ renderLine comma (looks ∷ operations ∷ [])
+    → ended word comma ++ ended (decimal buckets) comma ++ ended (decimal decreases) comma ++ ended (decimal placements) comma
+    ++ renderLine comma (looks ∷ operations ∷ [])
     ≡ boundsLine word buckets decreases placements looks operations
 unfolding renderFields boundsLine
 bounds-whole word buckets decreases placements looks operations = simp append-assoc
@@ -96,7 +99,8 @@ bounds-most : (word : List ℕ) (buckets decreases placements looks operations :
 bounds-most word buckets decreases placements looks operations = omega (
   arith,
   ap length (bounds-whole word buckets decreases placements looks operations),
-  length-append (ended word comma ++ ended (decimal buckets) comma ++ ended (decimal decreases) comma ++ ended (decimal placements) comma) (renderLine comma (looks ∷ operations ∷ [])),
+  length-append (ended word comma ++ ended (decimal buckets) comma ++ ended (decimal decreases) comma ++ ended (decimal placements) comma)
+      (renderLine comma (looks ∷ operations ∷ [])),
   length-append (ended word comma ++ ended (decimal buckets) comma ++ ended (decimal decreases) comma) (ended (decimal placements) comma),
   length-append (ended word comma ++ ended (decimal buckets) comma) (ended (decimal decreases) comma),
   length-append (ended word comma) (ended (decimal buckets) comma),
