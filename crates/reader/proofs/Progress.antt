@@ -8,6 +8,7 @@ use native.Mathlib.Omega.{arith}
 use lib.ListN.{length, take, drop, set, replicate, length-append, length-map, length-drop}
 use lib.Seq.{take-at, drop-append-add, drop-drop}
 use Rattle.model.specs.declared.Check.the-variants.{Passed}
+use Rattle.model.specs.Answers.{wordsAfter}
 use Rattle.cursor.specs.declared.ArcLine.the-variants.{NoArc, ArcRead}
 use Rattle.cursor.specs.Lines.{arcLine}
 use Rattle.reader.specs.Checking.{arcsCheck}
@@ -38,7 +39,7 @@ column-length f done words₀ words i e l so =
     ap length so ∙ simp (length-append, length-map, length-drop) (omega arith)
 
 column-end : (f : PlanArc → ℕ) (done arcs : List PlanArc) (words₀ words : List ℕ) (i : ℕ) → arcs ≡ done → length done ≡ i
-    → words ≡ map f done ++ drop i words₀ → words ≡ map f arcs ++ drop (length (map f arcs)) words₀
+    → words ≡ map f done ++ drop i words₀ → words ≡ wordsAfter Passed (map f arcs) words₀
 column-end f done arcs words₀ words i same e so = so ∙ rw (same, length-map done f, e)
 
 -- ---- the starts

@@ -14,15 +14,6 @@ start c = search needs
 abbrev run-of : tie.After-write-routes → tie.After-one-level
 run-of c = search needs
 
-slice-aggregate-map-starts : tie.Need-slice-aggregate-map-starts
-slice-aggregate-map-starts c = let s : tie.Start = search needs in sym (length-take-le _ _ (s .pre .0 .starts-fit))
-
-slice-aggregate-map-heads : tie.Need-slice-aggregate-map-heads
-slice-aggregate-map-heads c = let s : tie.Start = search needs in sym (length-take-le _ _ (s .pre .0 .heads-fit))
-
-slice-aggregate-map-costs : tie.Need-slice-aggregate-map-costs
-slice-aggregate-map-costs c = let s : tie.Start = search needs in sym (length-take-le _ _ (s .pre .0 .costs-fit))
-
 write-routes-requires : tie.Need-write-routes-requires
 write-routes-requires c κs =
     let run : tie.After-one-level = search needs in
@@ -40,9 +31,9 @@ list-map-spec =
     tie.close
     (tie.spec
     (λ c. search needs)
-    slice-aggregate-map-starts
-    slice-aggregate-map-heads
-    slice-aggregate-map-costs
+    (λ c. let s : tie.Start = search needs in sym (length-take-le _ _ (s .pre .0 .starts-fit)))
+    (λ c. let s : tie.Start = search needs in sym (length-take-le _ _ (s .pre .0 .heads-fit)))
+    (λ c. let s : tie.Start = search needs in sym (length-take-le _ _ (s .pre .0 .costs-fit)))
     (λ c κs. search needs)
     write-routes-requires
     (λ c. search needs)

@@ -15,15 +15,6 @@ start c = search needs
 abbrev one-of : tie.After-two-level → tie.After-one-level
 one-of c = search needs
 
-slice-aggregate-map-starts : tie.Need-slice-aggregate-map-starts
-slice-aggregate-map-starts c = let s : tie.Start = search needs in sym (length-take-le _ _ (s .pre .0 .one-level .starts-fit))
-
-slice-aggregate-map-heads : tie.Need-slice-aggregate-map-heads
-slice-aggregate-map-heads c = let s : tie.Start = search needs in sym (length-take-le _ _ (s .pre .0 .one-level .heads-fit))
-
-slice-aggregate-map-costs : tie.Need-slice-aggregate-map-costs
-slice-aggregate-map-costs c = let s : tie.Start = search needs in sym (length-take-le _ _ (s .pre .0 .one-level .costs-fit))
-
 write-runs-requires : tie.Need-write-runs-requires
 write-runs-requires c κs =
     let two : tie.After-two-level = search needs in
@@ -55,9 +46,9 @@ plan-map-spec =
     tie.close
     (tie.spec
     (λ c. search needs)
-    slice-aggregate-map-starts
-    slice-aggregate-map-heads
-    slice-aggregate-map-costs
+    (λ c. let s : tie.Start = search needs in sym (length-take-le _ _ (s .pre .0 .one-level .starts-fit)))
+    (λ c. let s : tie.Start = search needs in sym (length-take-le _ _ (s .pre .0 .one-level .heads-fit)))
+    (λ c. let s : tie.Start = search needs in sym (length-take-le _ _ (s .pre .0 .one-level .costs-fit)))
     (λ c κs. search needs)
     (λ c κs. search needs)
     (λ c κs. search needs)
