@@ -1,5 +1,5 @@
 -- The order in which each entry point makes the checks of what a call is given (document 01, "What a call returns").
-use Prim.Native.Nat.{ℕ, suc, _≤_}
+use Prim.Native.Nat.{ℕ, suc, _+_, _≤_}
 use mathlib.Core.List.{List, [], _∷_, _++_}
 use lib.ListN.{length}
 use Rattle.model.specs.declared.Check.{Check}
@@ -25,6 +25,12 @@ pub record LentList : Type 0 where
 unfoldable pub lentChecks : (place : ℕ) → List LentList → List Check
 lentChecks place [] = []
 lentChecks place (list ∷ lists) = lentCheck place (list .words) (list .needed) ∷ lentChecks (suc place) lists
+
+-- The lists of a map, lent to a reader that fills them: 0 starts, 1 heads, 2 costs (document 01, "What a call returns"; document 02,
+-- paper 1).
+abbrev pub mapLists : (n m starts heads costs : ℕ) → List LentList
+mapLists n m starts heads costs =
+    record { words = starts; needed = n + 1 } ∷ record { words = heads; needed = m } ∷ record { words = costs; needed = m } ∷ []
 
 -- ---- the order of each entry point's checks
 

@@ -5,7 +5,7 @@ use model::Check;
 use model::Node;
 ghost use mathlib.Core.Path.{_≡_};
 ghost use mathlib.Core.List.{[], _∷_};
-ghost use Rattle.checks.specs.Checks.{firstFault, sizeChecks, mapChecks, runLists, lentChecks, runChecks, lengthsFor};
+ghost use Rattle.checks.specs.Checks.{firstFault, sizeChecks, mapChecks, runLists, mapLists, lentChecks, runChecks, lengthsFor};
 ghost use Rattle.theory.specs.Runs.{inputs, one, two};
 
 // Both checks are made, since none writes and a call that passes needs them all; the first fault counts.
@@ -58,6 +58,18 @@ pub fn map_check(
         limits::heads_check(n, heads),
     );
     first_of(found, limits::costs_check(ceiling, costs))
+}
+
+// For a reader, which fills the lists of a map.
+pub fn map_lists_check(n: u32, arcs: u32, starts: usize, heads: usize, costs: usize) -> Check
+    ensures { λ r. ⌜ r ≡ firstFault (lentChecks 0 (mapLists n arcs starts heads costs)) ⌝ }
+{
+    let words = arcs as usize;
+    let found = first_of(
+        check_numbers::lent_check(0, starts, n as usize + 1),
+        check_numbers::lent_check(1, heads, words),
+    );
+    first_of(found, check_numbers::lent_check(2, costs, words))
 }
 
 fn run_lists_check(

@@ -17,7 +17,8 @@ use Rattle.walk.specs.Walk.{nodesOf, nodesAlong}
 use Rattle.route.specs.Routes.{routeWalk, routeChecks}
 use Rattle.fields.specs.Fields.{comma, decimal, renderLine}
 use Rattle.fields.specs.Writing.{Writes}
-use Rattle.reader.specs.Plans.{Header, PlanArc, planHeader, planArcs, startsOf, headsOf, costsOf, planRun}
+use Rattle.grouping.specs.Arcs.{PlanArc, startsOf, headsOf, costsOf}
+use Rattle.reader.specs.Plans.{Header, planHeader, planArcs, planRun}
 use Rattle.report.specs.Report.{refusedText}
 use Rattle.planning.specs.Planning.{planningCheck, PlanLists, WordsLent}
 

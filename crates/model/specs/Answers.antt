@@ -1,5 +1,6 @@
 -- Document 01's numbers for each case of an answer (document 01, "What a call returns").
 use Prim.Native.Nat.{ℕ}
+use mathlib.Core.Bool.{Bool, true, false}
 use mathlib.Core.List.{List, _++_}
 use lib.ListN.{length, drop}
 use Rattle.model.specs.declared.Check.{Check}
@@ -33,6 +34,11 @@ refusedNumbers number place = record { returned = number; place = place; reached
 abbrev pub numbersOf : RunAnswer → Numbers
 numbersOf (Accepted reached buckets counts) = acceptedNumbers reached buckets counts
 numbersOf (Refused number place) = refusedNumbers number place
+
+-- Every check has passed (document 01, "What a call returns").
+abbrev pub allPassed : Check → Bool
+allPassed Passed = true
+allPassed (Fault number place) = false
 
 -- A lent list afterwards: its first words are filled and the words past these untouched; a refusal changes none (document 01, "What the
 -- planner holds and leaves out" and "What a call returns").

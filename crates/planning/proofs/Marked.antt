@@ -6,19 +6,22 @@ use Rattle.theory.specs.Network.{linksFrom, network}
 use Rattle.theory.specs.Search.{label, remove, blank}
 use Rattle.theory.specs.Shape.{logFrom, ceilLog, oneLevelBuckets, twoLevelBuckets, oneLevel, twoLevel}
 use Rattle.theory.specs.Heap.{bucketFrom, heapLabel, heapRelax, heapRelaxAll, pick, rebound, boundsAfter, move, heapRemove, heapScan, heapFrom, boundsFrom, firstBounds, heapBlank, heapStart, heap}
-use Rattle.theory.specs.Runs.{stepsOf}
+use Rattle.theory.specs.Runs.{inputs, stepsOf}
 use Rattle.theory.specs.Edges.{Row, answerTo, edges}
 use Rattle.theory.proofs.Edges.{edges-hold}
 use Rattle.check_numbers.specs.Numbers.{faultIf}
 use Rattle.checks.specs.Checks.{firstFault, lentChecks}
 use Rattle.fields.specs.Fields.{digits, numberFrom, isField, field, fields, decimalBy, renderFields}
 use Rattle.fields.specs.Texts.{bytesOf}
+use Rattle.grouping.specs.Groups.{keysBelow, having, groupsFrom, startsFrom}
+use Rattle.grouping.specs.Arcs.{startsOf, headsOf, costsOf}
+use Rattle.grouping.specs.Listing.{listingArcs}
 use Rattle.cursor.specs.Lines.{arcLine, headerLine}
 use Rattle.reader.specs.Checking.{arcChecks, arcsCheck, headerChecks, planCheck}
-use Rattle.reader.specs.Plans.{linesArcs, tailsBelow, startsFrom, leaving, leavingFrom}
+use Rattle.reader.specs.Plans.{linesArcs, planInputs}
 use Rattle.report.specs.Report.{refusedText, countsLine, heapLine, orNone, nodeLine, nodeLines, acceptedText}
 use Rattle.planning.specs.Planning.{planningCheck, planText}
-use Rattle.planning.specs.Marked.{Told, answer, numbers, givenFor, said, files, marked}
+use Rattle.planning.specs.Marked.{Told, answer, numbers, givenFor, said, listingFile, files, marked}
 
 -- ---- the rows of numbers
 
@@ -38,7 +41,7 @@ numbers-hold = rows-given edges ∙ ap (map answer) edges-hold ∙ sym (rows-sai
 -- ---- the files
 
 files-hold : map givenFor files ≡ map said files
-unfolding givenFor said files stepsOf network linksFrom label remove blank logFrom ceilLog oneLevelBuckets twoLevelBuckets oneLevel twoLevel bucketFrom heapLabel heapRelax heapRelaxAll pick rebound boundsAfter move heapRemove heapScan heapFrom boundsFrom firstBounds heapBlank heapStart heap planText planningCheck bytesOf faultIf firstFault lentChecks digits numberFrom isField field fields decimalBy renderFields arcLine headerLine arcChecks arcsCheck headerChecks planCheck linesArcs tailsBelow startsFrom leaving leavingFrom refusedText countsLine heapLine orNone nodeLine nodeLines acceptedText
+unfolding givenFor said files stepsOf network linksFrom label remove blank logFrom ceilLog oneLevelBuckets twoLevelBuckets oneLevel twoLevel bucketFrom heapLabel heapRelax heapRelaxAll pick rebound boundsAfter move heapRemove heapScan heapFrom boundsFrom firstBounds heapBlank heapStart heap planText planningCheck bytesOf faultIf firstFault lentChecks digits numberFrom isField field fields decimalBy renderFields arcLine headerLine arcChecks arcsCheck headerChecks planCheck linesArcs keysBelow having groupsFrom startsFrom refusedText countsLine heapLine orNone nodeLine nodeLines acceptedText
 files-hold = refl
 
 -- ---- the table
@@ -48,3 +51,10 @@ marked-hold =
     map-append givenFor (map numbers edges) files
     ∙ ap₂ (λ (rows texts : List Told). rows ++ texts) numbers-hold files-hold
     ∙ sym (map-append said (map numbers edges) files)
+
+-- ---- the listing
+
+-- The map of the listing is that of its arcs, which a road file may tell in another order.
+pub listing-told : planInputs (bytesOf listingFile) ≡ inputs 5 9 0 (startsOf 5 listingArcs) (headsOf 5 listingArcs) (costsOf 5 listingArcs)
+unfolding listingArcs bytesOf digits numberFrom isField field fields arcLine headerLine linesArcs keysBelow having groupsFrom startsFrom
+listing-told = refl

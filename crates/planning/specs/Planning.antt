@@ -16,7 +16,8 @@ use Rattle.checks.specs.Checks.{firstFault, runChecks, Lengths, lengthsFor}
 use Rattle.runs.specs.Promise.{RosterAfter}
 use Rattle.fields.specs.Writing.{Writes}
 use Rattle.reader.specs.Checking.{planCheck}
-use Rattle.reader.specs.Plans.{Header, PlanArc, planHeader, planArcs, startsOf, headsOf, costsOf, planRun}
+use Rattle.grouping.specs.Arcs.{PlanArc, startsOf, headsOf, costsOf}
+use Rattle.reader.specs.Plans.{Header, planHeader, planArcs, planRun}
 use Rattle.report.specs.Report.{refusedText, acceptedText}
 use Rattle.planning.specs.declared.RunNumbers.{RunNumbers}
 

@@ -11,13 +11,14 @@ use Rattle.fields.proofs.Lines.{line-within}
 use Rattle.checks.specs.Checks.{firstFault, lentChecks}
 use Rattle.checks.proofs.Order.{AllPass, none, more, passed-all}
 use Rattle.checks.proofs.Sizes.{passed-lent}
+use Rattle.grouping.specs.Filled.{Filled}
 use Rattle.cursor.specs.declared.HeaderLine.the-variants.{NoHeader, HeaderRead}
 use Rattle.reader.specs.declared.PlanAnswer.the-variants.{Read, Refused}
 use Rattle.cursor.specs.Lines.{headerOf, headerLine}
 use Rattle.reader.specs.Checking.{arcsCheck, headerChecks, planCheck}
 use Rattle.reader.specs.Plans.{linesArcs}
 use Rattle.reader.specs.Promise.{PlanPromised}
-use Rattle.reader.specs.Filling.{Fillable, Filled}
+use Rattle.reader.specs.Filling.{Fillable}
 
 -- ---- line 1
 

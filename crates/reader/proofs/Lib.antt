@@ -1,5 +1,4 @@
 mod Answered
-pub mod Arcs
 mod Lists
 mod Passing
 mod Progress

@@ -1,6 +1,6 @@
 -- How far the second pass has come: the arcs read, and what the lists hold of them. Assumes nothing.
 use mathlib.Core.Path.{_≡_, refl, sym, _∙_, ap, ap₂}
-use mathlib.Core.List.{List, [], _∷_, _++_, map, append-assoc, append-nil}
+use mathlib.Core.List.{List, [], _∷_, _++_, map, map-append, append-assoc, append-nil}
 use Prim.Native.Nat.{ℕ, suc, _+_, _-_, _≤_, _<_}
 use native.Mathlib.Nat.{sub-zero}
 use native.Mathlib.Numerals.{add-one}
@@ -9,21 +9,22 @@ use lib.ListN.{length, take, drop, set, replicate, length-append, length-map, le
 use lib.Seq.{take-at, drop-append-add, drop-drop}
 use Rattle.model.specs.declared.Check.the-variants.{Passed}
 use Rattle.model.specs.Answers.{wordsAfter}
+use Rattle.grouping.specs.Groups.{keysBelow, startsFrom}
+use Rattle.grouping.specs.Arcs.{PlanArc, tailKey, tailsBelow, numbered}
+use Rattle.grouping.specs.Filled.{Filled}
+use Rattle.grouping.proofs.Groups.{below-append, below-one}
+use Rattle.grouping.proofs.Starts.{starts-length, starts-split, starts-same}
+use Rattle.grouping.proofs.Order.{Rising, more, none-below, in-order}
 use Rattle.cursor.specs.declared.ArcLine.the-variants.{NoArc, ArcRead}
 use Rattle.cursor.specs.Lines.{arcLine}
 use Rattle.reader.specs.Checking.{arcsCheck}
-use Rattle.reader.specs.Plans.{PlanArc, linesArcs, tailsBelow, startsFrom, numbered}
-use Rattle.reader.specs.Filling.{Fillable, Filled, between}
-use Rattle.reader.proofs.Arcs.{Rising, more, below-none, below-append, below-one, starts-length, starts-split, starts-same, in-order}
+use Rattle.reader.specs.Plans.{linesArcs}
+use Rattle.reader.specs.Filling.{Fillable, between}
 use Rattle.reader.proofs.Lists.{stored}
 use Rattle.reader.proofs.Passing.{behind-within}
 use Rattle.reader.proofs.Shown.{LineShown, line-there, line-shown, line-arc, arcs-shown}
 
 -- ---- a column of the arcs, as heads and costs are
-
-map-append : (f : PlanArc → ℕ) (first rest : List PlanArc) → map f (first ++ rest) ≡ map f first ++ map f rest
-map-append f [] rest = refl
-map-append f (arc ∷ first) rest = ap (λ (words : List ℕ). f arc ∷ words) (map-append f first rest)
 
 column-next : (f : PlanArc → ℕ) (done : List PlanArc) (arc : PlanArc) (words₀ words : List ℕ) (i : ℕ) → length done ≡ i → i < length words₀
     → words ≡ map f done ++ drop i words₀ → set words i (f arc) ≡ map f (done ++ (arc ∷ [])) ++ drop (suc i) words₀
@@ -45,31 +46,31 @@ column-end f done arcs words₀ words i same e so = so ∙ rw (same, length-map 
 -- ---- the starts
 
 module _ (arcs : List PlanArc) (words₀ words : List ℕ) (next end word : ℕ) (l : next ≤ end)
-    (so : words ≡ startsFrom 0 next arcs ++ drop next words₀) where
+    (so : words ≡ startsFrom tailKey 0 next arcs ++ drop next words₀) where
   -- the starts between two nodes are all the same word
   starts-next : ((v : ℕ) → next ≤ v → v < end → tailsBelow v arcs ≡ word)
-      → between words next end word ≡ startsFrom 0 end arcs ++ drop end words₀
+      → between words next end word ≡ startsFrom tailKey 0 end arcs ++ drop end words₀
   starts-next same =
-      let filled = startsFrom 0 next arcs in
-      let long : length filled + (end - next) ≡ end = omega (arith, starts-length 0 next arcs) in
+      let filled = startsFrom tailKey 0 next arcs in
+      let long : length filled + (end - next) ≡ end = omega (arith, starts-length tailKey 0 next arcs) in
       let more : next + (end - next) ≡ end = omega arith in
       let from : 0 + next ≡ next = omega arith in
-      let front : take next words ≡ filled = ap (take next) so ∙ take-at filled (drop next words₀) next (starts-length 0 next arcs) in
+      let front : take next words ≡ filled = ap (take next) so ∙ take-at filled (drop next words₀) next (starts-length tailKey 0 next arcs) in
       let past : drop end words ≡ drop end words₀ =
       ap (drop end) so
       ∙ rw long at (drop-append-add filled (drop next words₀) (end - next))
       ∙ drop-drop (end - next) next words₀
       ∙ ap (λ (i : ℕ). drop i words₀) more in
-      let equal : startsFrom next (end - next) arcs ≡ replicate (end - next) word =
-      starts-same next (end - next) word arcs (λ v h b. same v h (omega arith)) in
-      let whole : startsFrom 0 end arcs ≡ filled ++ replicate (end - next) word =
-      rw (more, from, equal) at (starts-split 0 next (end - next) arcs) in
+      let equal : startsFrom tailKey next (end - next) arcs ≡ replicate (end - next) word =
+      starts-same tailKey next (end - next) word arcs (λ v h b. same v h (omega arith)) in
+      let whole : startsFrom tailKey 0 end arcs ≡ filled ++ replicate (end - next) word =
+      rw (more, from, equal) at (starts-split tailKey 0 next (end - next) arcs) in
       ap₂ (λ (first rest : List ℕ). first ++ (replicate (end - next) word ++ rest)) front past
       ∙ sym (append-assoc filled (replicate (end - next) word) (drop end words₀))
       ∙ ap (λ (starts : List ℕ). starts ++ drop end words₀) (sym whole)
 
   starts-long : next ≤ length words₀ → length words ≡ length words₀
-  starts-long h = ap length so ∙ simp (length-append, length-drop) (omega (arith, starts-length 0 next arcs))
+  starts-long h = ap length so ∙ simp (length-append, length-drop) (omega (arith, starts-length tailKey 0 next arcs))
 
 -- ---- the invariant
 
@@ -88,13 +89,13 @@ pub record Progress (n m : ℕ) (bytes : List ℕ) (from : ℕ) (starts₀ heads
   pub next-low : next ≤ suc before
   pub next-fits : next ≤ n
   pub done-below : (v : ℕ) → next ≤ v → tailsBelow v done ≡ i
-  pub starts-so : starts ≡ startsFrom 0 next (linesArcs m (drop from bytes)) ++ drop next starts₀
+  pub starts-so : starts ≡ startsFrom tailKey 0 next (linesArcs m (drop from bytes)) ++ drop next starts₀
   pub heads-so : heads ≡ map (λ (arc : PlanArc). arc .head) done ++ drop i heads₀
   pub costs-so : costs ≡ map (λ (arc : PlanArc). arc .cost) done ++ drop i costs₀
 
 module _ {n m : ℕ} {bytes : List ℕ} {from : ℕ} {starts heads costs : List ℕ} where
   pub progress-start : Fillable n m bytes from starts heads costs → Progress n m bytes from starts heads costs starts heads costs from 0 0
-  unfolding startsFrom tailsBelow
+  unfolding startsFrom keysBelow
   progress-start f = record {
     given = f;
     before = 0;
@@ -153,11 +154,11 @@ module _ {n m : ℕ} {bytes : List ℕ} {from : ℕ} {starts₀ heads₀ costs�
       equal-starts v h b =
           let rest = linesArcs (m - suc i) (drop taken (drop at bytes)) in
           let low : tail ≤ tail = omega arith in
-          let rising : Rising n tail (readArc tail head cost ∷ rest) =
+          let rising : Rising tailKey n tail (readArc tail head cost ∷ rest) =
           more low (shown .tail-node) (arcs-shown n (p .given .ceiling) (m - suc i) (suc i) tail (drop taken (drop at bytes)) (shown .behind) .rising) in
           ap (tailsBelow v) behind
-          ∙ below-append v (p .done) (readArc tail head cost ∷ rest)
-          ∙ omega (arith, p .done-below v h, below-none v (readArc tail head cost ∷ rest) rising (omega arith))
+          ∙ below-append tailKey v (p .done) (readArc tail head cost ∷ rest)
+          ∙ omega (arith, p .done-below v h, none-below v (readArc tail head cost ∷ rest) rising (omega arith))
 
       pub progress-next : Progress n m bytes from starts₀ heads₀ costs₀ (between starts next (tail + 1) i) (set heads i head) (set costs i cost)
           (at + taken) (tail + 1) (i + 1)
@@ -177,7 +178,8 @@ module _ {n m : ℕ} {bytes : List ℕ} {from : ℕ} {starts₀ heads₀ costs�
             next-low = omega arith;
             next-fits = omega (arith, shown .tail-node);
             done-below = λ v h.
-                below-append v (p .done) (arc ∷ []) ∙ omega (arith, p .done-below v (omega (arith, next-not-past)), below-one v arc (omega arith));
+                below-append tailKey v (p .done) (arc ∷ [])
+                ∙ omega (arith, p .done-below v (omega (arith, next-not-past)), below-one tailKey v arc (omega arith));
             starts-so = starts-next (linesArcs m (drop from bytes)) starts₀ starts next (tail + 1) i next-not-past (p .starts-so) equal-starts;
             heads-so = column-next (λ (arc : PlanArc). arc .head) (p .done) arc heads₀ heads i (p .count) (omega (arith, p .given .heads-fit)) (p .heads-so);
             costs-so = column-next (λ (arc : PlanArc). arc .cost) (p .done) arc costs₀ costs i (p .count) (omega (arith, p .given .costs-fit)) (p .costs-so);
@@ -195,7 +197,7 @@ module _ {n m : ℕ} {bytes : List ℕ} {from : ℕ} {starts₀ heads₀ costs�
       record {
         starts-filled =
             starts-next arcs starts₀ starts next (n + 1) m (omega (arith, p .next-fits)) (p .starts-so) below
-            ∙ rw (add-one n, starts-length 0 (suc n) arcs);
+            ∙ rw (add-one n, starts-length tailKey 0 (suc n) arcs);
         heads-filled = column-end (λ (arc : PlanArc). arc .head) (p .done) (numbered n arcs) heads₀ heads i (ordered ∙ all) (p .count) (p .heads-so);
         costs-filled = column-end (λ (arc : PlanArc). arc .cost) (p .done) (numbered n arcs) costs₀ costs i (ordered ∙ all) (p .count) (p .costs-so);
       }

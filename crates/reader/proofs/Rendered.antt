@@ -1,16 +1,19 @@
--- What was rendered is read back: line 1's numbers and the arcs. Assumes nothing.
+-- What was rendered is read back: line 1's numbers, the arcs, and their map. Assumes nothing.
 use Prim.Native.Nat.{ℕ}
 use native.Mathlib.Omega.{arith}
-use mathlib.Core.Path.{_≡_, refl, _∙_, ap}
+use mathlib.Core.Path.{_≡_, refl, _∙_, ap, ap₂}
 use mathlib.Core.List.{List, [], _∷_, _++_}
 use lib.ListN.{length, drop}
 use lib.Seq.{drop-append-seam}
+use Rattle.theory.specs.Runs.{inputs}
 use Rattle.fields.specs.Fields.{comma, renderLine}
 use Rattle.fields.proofs.Parsing.{FitFields, line-render}
 use Rattle.cursor.specs.declared.ArcLine.the-variants.{ArcRead}
 use Rattle.cursor.specs.declared.HeaderLine.the-variants.{HeaderRead}
 use Rattle.cursor.specs.Lines.{arcOf, arcLine, headerOf, headerLine}
-use Rattle.reader.specs.Plans.{PlanArc, linesArcs, planArcs}
+use Rattle.grouping.proofs.Valid.{same-map}
+use Rattle.grouping.specs.Arcs.{PlanArc, numbered, startsOf, headsOf, costsOf}
+use Rattle.reader.specs.Plans.{linesArcs, planArcs, headerNumbers, planRun, planInputs}
 use Rattle.reader.specs.Rendering.{arcNumbers, renderArcs, renderHeader, renderPlan}
 
 -- Every number of the arcs fits a field.
@@ -45,3 +48,14 @@ module _ (n C source K : ℕ) (arcs : List PlanArc) (fit : FitFields (n ∷ leng
 
   pub arcs-rendered : FitArcs arcs → planArcs (renderPlan n (length arcs) C source K arcs) ≡ arcs
   arcs-rendered fits = rw header-rendered (ap (linesArcs (length arcs)) behind ∙ arcs-read arcs fits)
+
+-- Arcs in any order have the map of the planning file with the same arcs grouped by tail (document 02, paper 1).
+module _ (n C source K : ℕ) (arcs : List PlanArc) where
+  abbrev told : List PlanArc
+  told = numbered n arcs
+
+  pub grouped-rendered : FitFields (n ∷ length told ∷ C ∷ source ∷ K ∷ []) → FitArcs told
+      → planInputs (renderPlan n (length told) C source K told) ≡ inputs n C source (startsOf n arcs) (headsOf n arcs) (costsOf n arcs)
+  grouped-rendered fit fits =
+      ap₂ planRun (ap headerNumbers (header-rendered n C source K told fit)) (arcs-rendered n C source K told fit fits)
+      ∙ same-map n C source arcs

@@ -1,22 +1,25 @@
 -- What the lines of arcs that pass their checks show. Assumes nothing.
 use mathlib.Core.Path.{_≡_, refl, ap}
-use mathlib.Core.List.{List, [], _∷_, _++_, map}
+use mathlib.Core.List.{List, [], _∷_, _++_}
 use Prim.Native.Nat.{ℕ, zero, suc, _+_, _≤_, _<_}
 use native.Mathlib.Omega.{arith}
 use lib.Dec.{ltb, leb}
-use lib.ListN.{length, getD, drop}
+use lib.ListN.{length, drop}
 use borrow.Author.Tests.{ltb-false, leb-false}
 use Rattle.model.specs.declared.Check.the-variants.{Passed, Fault}
 use Rattle.check_lists.proofs.Tests.{or-left, or-right}
 use Rattle.checks.proofs.Order.{AllPass, none, more, passed-all}
 use Rattle.checks.proofs.Sizes.{passed-test}
+use Rattle.grouping.specs.Arcs.{PlanArc, tailKey}
+use Rattle.grouping.proofs.All as every
+use Rattle.grouping.proofs.Order.{Rising}
+use Rattle.grouping.proofs.Order as rising
+use Rattle.grouping.proofs.Valid.{ArcsIn}
 use Rattle.cursor.specs.declared.ArcLine.{ArcLine}
 use Rattle.cursor.specs.declared.ArcLine.the-variants.{NoArc, ArcRead}
 use Rattle.cursor.specs.Lines.{arcLine}
 use Rattle.reader.specs.Checking.{arcChecks, arcsCheck}
-use Rattle.reader.specs.Plans.{PlanArc, linesArcs}
-use Rattle.reader.proofs.Arcs.{Rising}
-use Rattle.reader.proofs.Arcs as rising
+use Rattle.reader.specs.Plans.{linesArcs}
 
 -- ---- one line
 
@@ -56,31 +59,15 @@ module _ (n C left i before : ℕ) (bytes : List ℕ) (passed : arcsCheck n C (s
 
 -- ---- all lines
 
-abbrev pub headWords : List PlanArc → List ℕ
-headWords arcs = map (λ (arc : PlanArc). arc .head) arcs
-
-abbrev pub costWords : List PlanArc → List ℕ
-costWords arcs = map (λ (arc : PlanArc). arc .cost) arcs
-
 pub record ArcsShown (n C left before : ℕ) (arcs : List PlanArc) : Type 0 where
   pub count : length arcs ≡ left
-  pub rising : Rising n before arcs
-  pub heads-nodes : (a : ℕ) → a < left → getD (headWords arcs) a 0 < n
-  pub costs-most : (a : ℕ) → a < left → getD (costWords arcs) a 0 ≤ C
-
-first-and-rest : (P : ℕ → Type 0) (left : ℕ) → P 0 → ((a : ℕ) → a < left → P (suc a)) → (a : ℕ) → a < suc left → P a
-first-and-rest P left first rest zero l = first
-first-and-rest P left first rest (suc a) l = rest a (omega arith)
+  pub rising : Rising tailKey n before arcs
+  pub ranged : ArcsIn n C arcs
 
 pub arcs-shown : (n C left i before : ℕ) (bytes : List ℕ) → arcsCheck n C left i before bytes ≡ Passed
     → ArcsShown n C left before (linesArcs left bytes)
 unfolding linesArcs
-arcs-shown n C zero i before bytes passed = record {
-  count = refl;
-  rising = rising.none;
-  heads-nodes = λ a l. absurd (omega arith);
-  costs-most = λ a l. absurd (omega arith);
-}
+arcs-shown n C zero i before bytes passed = record { count = refl; rising = rising.none; ranged = every.none }
 arcs-shown n C (suc left) i before bytes passed = go (arcLine bytes) refl (λ at tail. arcs-shown n C left (suc i) tail (drop at bytes))
   where
     go : (line : ArcLine) → arcLine bytes ≡ line
@@ -90,11 +77,10 @@ arcs-shown n C (suc left) i before bytes passed = go (arcLine bytes) refl (λ at
     go (ArcRead tail head cost taken) e rest =
         let shown = line-shown n C left i before bytes passed e in
         let behind = rest taken tail (shown .behind) in
-        let arcs : List PlanArc = record { tail = tail; head = head; cost = cost } ∷ linesArcs left (drop taken bytes) in
         rw (line-arc n C left i before bytes passed e)
         (record {
           count = ap suc (behind .count);
           rising = rising.more (shown .tail-not-below) (shown .tail-node) (behind .rising);
-          heads-nodes = first-and-rest (λ a. getD (headWords arcs) a 0 < n) left (shown .head-node) (behind .heads-nodes);
-          costs-most = first-and-rest (λ a. getD (costWords arcs) a 0 ≤ C) left (shown .cost-most) (behind .costs-most);
+          ranged =
+              every.more (record { tail-node = shown .tail-node; head-node = shown .head-node; cost-most = shown .cost-most }) (behind .ranged);
         })

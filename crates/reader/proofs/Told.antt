@@ -10,14 +10,14 @@ use lib.Seq.{take-at}
 use Rattle.model.specs.declared.Check.{Check}
 use Rattle.model.specs.declared.Check.the-variants.{Passed, Fault}
 use Rattle.model.specs.declared.Node.{Node}
-use Rattle.model.specs.Answers.{wordsAfter}
+use Rattle.model.specs.Answers.{wordsAfter, allPassed}
 use Rattle.theory.specs.Runs.{inputs}
 use Rattle.theory.proofs.Cases.{differ}
 use Rattle.reader.specs.declared.PlanAnswer.{PlanAnswer}
 use Rattle.reader.specs.declared.PlanAnswer.the-variants.{Read, Refused}
 use Rattle.reader.specs.Checking.{planCheck}
 use Rattle.reader.specs.Plans.{Header, planHeader, planArcs, planStarts, planHeads, planCosts, planInputs}
-use Rattle.reader.specs.Promise.{PlanNumbers, planNumbers, planNumbersOf, wasRead, allPassed, PlanAnswered, PlanPromised}
+use Rattle.reader.specs.Promise.{PlanNumbers, planNumbers, planNumbersOf, wasRead, PlanAnswered, PlanPromised}
 use Rattle.reader.proofs.Runnable.{Runnable, read-runnable}
 
 -- A refusal is the first fault of the checks.

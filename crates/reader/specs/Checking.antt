@@ -7,7 +7,7 @@ use lib.ListN.{length, drop}
 use Rattle.model.specs.declared.Check.{Check}
 use Rattle.model.specs.declared.Check.the-variants.{Fault}
 use Rattle.check_numbers.specs.Numbers.{faultIf, nodesCheck, headCountCheck, ceilingCheck, sourceCheck, segmentsCheck}
-use Rattle.checks.specs.Checks.{firstFault, LentList, lentChecks}
+use Rattle.checks.specs.Checks.{firstFault, mapLists, lentChecks}
 use Rattle.cursor.specs.declared.ArcLine.{ArcLine}
 use Rattle.cursor.specs.declared.ArcLine.the-variants.{NoArc, ArcRead}
 use Rattle.cursor.specs.declared.HeaderLine.{HeaderLine}
@@ -52,11 +52,6 @@ arcsCheck n C (suc left) i before bytes =
     (λ tail head cost taken.
     firstFault (arcChecks n C i before tail head cost ++ (arcsCheck n C left (suc i) tail (drop taken bytes) ∷ [])))
 
--- The lists lent to the reader: 0 starts, 1 heads, 2 costs (document 01, "What a call returns").
-abbrev pub readerLists : (n m starts heads costs : ℕ) → List LentList
-readerLists n m starts heads costs =
-    record { words = starts; needed = n + 1 } ∷ record { words = heads; needed = m } ∷ record { words = costs; needed = m } ∷ []
-
 -- Line 1 by 1, 4, 2, 3, 9, 10 (document 01, "What a call returns").
 unfoldable pub headerChecks : (n m C source K starts heads costs : ℕ) → List Check
 headerChecks n m C source K starts heads costs =
@@ -65,7 +60,7 @@ headerChecks n m C source K starts heads costs =
     ∷ ceilingCheck C
     ∷ sourceCheck n source
     ∷ segmentsCheck K
-    ∷ lentChecks 0 (readerLists n m starts heads costs)
+    ∷ lentChecks 0 (mapLists n m starts heads costs)
 
 -- A planning file, and the words of the lists lent for it: line 1 by 11 and its other checks, then the arcs (document 01, "What a
 -- call returns").

@@ -4,9 +4,7 @@ use mathlib.Core.Path.{_≡_}
 use mathlib.Core.List.{List, _++_}
 use lib.ListN.{length, take, drop, replicate}
 use Rattle.model.specs.declared.Check.the-variants.{Passed}
-use Rattle.model.specs.Answers.{wordsAfter}
 use Rattle.reader.specs.Checking.{arcsCheck}
-use Rattle.reader.specs.Plans.{PlanArc, startsOf, headsOf, costsOf}
 
 -- What the checks have shown of the lines of m arcs, from a place of the bytes on, and of the lists that they fill (document 01, "What a
 -- call returns").
@@ -17,12 +15,6 @@ pub record Fillable (n m : ℕ) (bytes : List ℕ) (at : ℕ) (starts heads cost
   pub starts-fit : n + 1 ≤ length starts
   pub heads-fit : m ≤ length heads
   pub costs-fit : m ≤ length costs
-
--- The lists hold the map of the arcs, and words past these are untouched (document 01, "Planning file").
-pub record Filled (n : ℕ) (arcs : List PlanArc) (starts heads costs starts′ heads′ costs′ : List ℕ) : Type 0 where
-  pub starts-filled : starts′ ≡ wordsAfter Passed (startsOf n arcs) starts
-  pub heads-filled : heads′ ≡ wordsAfter Passed (headsOf n arcs) heads
-  pub costs-filled : costs′ ≡ wordsAfter Passed (costsOf n arcs) costs
 
 -- The words from one place up to but not including another are set (document 01, "Planning file").
 abbrev pub between : (words : List ℕ) → (from to word : ℕ) → List ℕ

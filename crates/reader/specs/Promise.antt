@@ -6,7 +6,7 @@ use mathlib.Core.List.{List}
 use lib.ListN.{length}
 use Rattle.model.specs.declared.Check.{Check}
 use Rattle.model.specs.declared.Check.the-variants.{Passed, Fault}
-use Rattle.model.specs.Answers.{wordsAfter}
+use Rattle.model.specs.Answers.{wordsAfter, allPassed}
 use Rattle.reader.specs.declared.PlanAnswer.{PlanAnswer}
 use Rattle.reader.specs.declared.PlanAnswer.the-variants.{Read, Refused}
 use Rattle.reader.specs.Checking.{planCheck}
@@ -47,11 +47,6 @@ planNumbersOf (Refused number place) = unreadNumbers number place
 abbrev pub wasRead : PlanAnswer → Bool
 wasRead (Read nodes arcs ceiling source segments) = true
 wasRead (Refused number place) = false
-
--- Every check has passed (document 01, "What a call returns").
-abbrev pub allPassed : Check → Bool
-allPassed Passed = true
-allPassed (Fault number place) = false
 
 -- The numbers given back: those of line 1, or the first fault's (document 01, "Planning file" and "What a call returns").
 abbrev pub planNumbers : Check → Header → PlanNumbers

@@ -2,7 +2,7 @@
 use Prim.Native.Nat.{ℕ}
 use mathlib.Core.List.{List, [], _∷_, _++_}
 use Rattle.fields.specs.Fields.{comma, renderLine}
-use Rattle.reader.specs.Plans.{PlanArc}
+use Rattle.grouping.specs.Arcs.{PlanArc}
 
 -- The numbers of an arc's line: tail, head, cost (document 01, "Planning file").
 abbrev pub arcNumbers : PlanArc → List ℕ

@@ -1,5 +1,6 @@
 // The first pass over a planning file: every check in order, and no word written (document 01, "What a call returns").
 use checks::first_of;
+use checks::map_lists_check;
 use cursor::ArcLine;
 use cursor::arc_line_at;
 use cursor::left_over_at;
@@ -11,8 +12,8 @@ ghost use Prim.Native.Nat.{_≤_};
 ghost use lib.Dec.{ltb};
 ghost use lib.ListN.{length, drop};
 ghost use Rattle.check_numbers.specs.Numbers.{faultIf};
-ghost use Rattle.checks.specs.Checks.{firstFault, lentChecks};
-ghost use Rattle.reader.specs.Checking.{arcChecks, arcsCheck, readerLists, headerChecks};
+ghost use Rattle.checks.specs.Checks.{firstFault};
+ghost use Rattle.reader.specs.Checking.{arcChecks, arcsCheck, headerChecks};
 
 // What line 1 tells and the lists lent for it, then the arcs behind it.
 pub fn plan_check(
@@ -55,23 +56,12 @@ fn header_check(
     let limit = check_numbers::ceiling_check(ceiling);
     let from = check_numbers::source_check(n, source);
     let parts = check_numbers::segments_check(segments);
-    let lists = lists_check(n, arcs, starts, heads, costs);
+    let lists = map_lists_check(n, arcs, starts, heads, costs);
     let found = first_of(nodes, count);
     let found = first_of(found, limit);
     let found = first_of(found, from);
     let found = first_of(found, parts);
     first_of(found, lists)
-}
-
-fn lists_check(n: u32, arcs: u32, starts: usize, heads: usize, costs: usize) -> Check
-    ensures { λ r. ⌜ r ≡ firstFault (lentChecks 0 (readerLists n arcs starts heads costs)) ⌝ }
-{
-    let words = arcs as usize;
-    let found = first_of(
-        check_numbers::lent_check(0, starts, n as usize + 1),
-        check_numbers::lent_check(1, heads, words),
-    );
-    first_of(found, check_numbers::lent_check(2, costs, words))
 }
 
 fn arcs_check(bytes: &[u8], at: usize, n: u32, ceiling: u32, arcs: u32) -> Check

@@ -4,8 +4,9 @@ use cursor::arc_line_at;
 ghost use mathlib.Core.Path.{_≡_};
 ghost use Prim.Native.Nat.{_≤_};
 ghost use lib.ListN.{length, drop};
+ghost use Rattle.grouping.specs.Filled.{Filled};
 ghost use Rattle.reader.specs.Plans.{linesArcs};
-ghost use Rattle.reader.specs.Filling.{Fillable, Filled, between};
+ghost use Rattle.reader.specs.Filling.{Fillable, between};
 
 // The tails never fall: the starts up to an arc's tail are the arcs before it.
 pub fn fill(
