@@ -1,0 +1,6 @@
+mod Passing
+mod Answered
+mod Next
+mod Storing
+pub mod Runnable
+pub mod Marked

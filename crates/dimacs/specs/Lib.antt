@@ -1,0 +1,4 @@
+pub mod Roads
+pub mod Promise
+pub mod Filling
+pub mod Marked

@@ -1,0 +1,2 @@
+mod Heading
+mod Passing

@@ -1,0 +1,5 @@
+pub mod Behind
+mod Begins
+mod Comments
+mod Numbered
+mod Prefixes
