@@ -64,6 +64,7 @@
 #define ROOSTERNOW_RUN_NUMBERS 7
 #define ROOSTERNOW_ROUTE_NUMBERS 3
 #define ROOSTERNOW_READ_NUMBERS 7
+#define ROOSTERNOW_DIMACS_NUMBERS 4
 
 /* The fixed sizes of roosternow_answer, and the most bytes that it takes. */
 #define ROOSTERNOW_ANSWER_STARTS 513
@@ -96,7 +97,7 @@ enum roosternow_number {
     ROOSTERNOW_LOOKS = 6,      /* at most r * B; for two levels r * (B + K) */
     /* route */
     ROOSTERNOW_ROUTE_NODES = 2, /* nodes of the route, source and destination included */
-    /* read */
+    /* read; read_dimacs has the first two */
     ROOSTERNOW_NODES = 2,
     ROOSTERNOW_ARCS = 3,
     ROOSTERNOW_CEILING = 4,
@@ -113,17 +114,19 @@ enum roosternow_refusal {
     ROOSTERNOW_BAD_ARCS = 4,
     ROOSTERNOW_BAD_STARTS_LENGTH = 5,
     ROOSTERNOW_BAD_STARTS = 6, /* place: least such index */
-    ROOSTERNOW_BAD_HEAD = 7,   /* place: least arc */
-    ROOSTERNOW_BAD_COST = 8,   /* place: least arc */
+    ROOSTERNOW_BAD_HEAD = 7,   /* place: least arc; roosternow_read_dimacs: the arcs before it */
+    ROOSTERNOW_BAD_COST = 8,   /* place: least arc; roosternow_read_dimacs: the arcs before it */
     ROOSTERNOW_BAD_SEGMENTS = 9,
     ROOSTERNOW_SHORT_LIST = 10, /* place: first such list, numbered at each function */
     ROOSTERNOW_BAD_LINE = 11,   /* place: line from 1 */
-    ROOSTERNOW_BAD_TAIL = 12,   /* place: arc */
+    ROOSTERNOW_BAD_TAIL = 12,   /* place: arc; roosternow_read_dimacs: the arcs before it */
     ROOSTERNOW_LONG_INPUT = 13, /* roosternow_answer only */
     ROOSTERNOW_BAD_DESTINATION = 14,
     ROOSTERNOW_NO_PARENT = 15,
     ROOSTERNOW_BAD_PARENTS = 16,
-    ROOSTERNOW_SHORT_ROUTE = 17
+    ROOSTERNOW_SHORT_ROUTE = 17,
+    ROOSTERNOW_BAD_ROAD_LINE = 18, /* roosternow_read_dimacs only; place: line from 1 */
+    ROOSTERNOW_BAD_ROAD_ORDER = 19 /* roosternow_read_dimacs only; place: line from 1 */
 };
 
 /* A refusal in words. */
@@ -136,17 +139,19 @@ static inline const char *roosternow_refusal_text(uint64_t returned) {
     case ROOSTERNOW_BAD_ARCS: return "more than 65,536 arcs, or heads and costs differ in length";
     case ROOSTERNOW_BAD_STARTS_LENGTH: return "starts not n + 1 words";
     case ROOSTERNOW_BAD_STARTS: return "starts: first not 0, one below its predecessor or above m, or last not m";
-    case ROOSTERNOW_BAD_HEAD: return "head not below n";
+    case ROOSTERNOW_BAD_HEAD: return "head not below n; in a road file outside 1 to n";
     case ROOSTERNOW_BAD_COST: return "cost above C";
     case ROOSTERNOW_BAD_SEGMENTS: return "K outside 2 to 64";
     case ROOSTERNOW_SHORT_LIST: return "lent list too short";
     case ROOSTERNOW_BAD_LINE: return "line missing, ill-formed or left over";
-    case ROOSTERNOW_BAD_TAIL: return "tail below the one before or not below n";
+    case ROOSTERNOW_BAD_TAIL: return "tail below the one before or not below n; in a road file outside 1 to n";
     case ROOSTERNOW_LONG_INPUT: return "input over 65,536 bytes";
     case ROOSTERNOW_BAD_DESTINATION: return "destination not below n";
     case ROOSTERNOW_NO_PARENT: return "destination has no parent and is not the source";
     case ROOSTERNOW_BAD_PARENTS: return "parents do not lead back to the source by arcs below m whose heads fit, in at most n - 1 arcs";
     case ROOSTERNOW_SHORT_ROUTE: return "route list has fewer words than the route has nodes";
+    case ROOSTERNOW_BAD_ROAD_LINE: return "line of a road file ill-formed or empty";
+    case ROOSTERNOW_BAD_ROAD_ORDER: return "road file: second p line, arc before it or beyond m, or p line or arc lacking at the end";
     default: return "no refusal of this version";
     }
 }
@@ -267,6 +272,25 @@ void roosternow_read(const uint8_t *bytes, size_t bytes_length,
                      uint32_t *heads, size_t heads_words,
                      uint32_t *costs, size_t costs_words,
                      uint64_t numbers[ROOSTERNOW_LENT(ROOSTERNOW_READ_NUMBERS)]);
+
+/*
+ * The map of a road file in the shortest path format of the 9th DIMACS Challenge. Lines that begin with c are comments; one line
+ * `p sp n m` comes before any arc, and there are m lines `a tail head cost`, nodes from 1, arcs in any order. Fields are parted by one space;
+ * digits and line ends are as in a planning file.
+ *
+ * Needs: the file's bytes; `ceiling` C, which no cost exceeds; n + 1 words of starts and m words of each of heads and costs at least.
+ * Gives: n + 1 starts, m heads and m costs, as the runs take them: nodes from 0, arcs numbered by tail, in the order of the file within a
+ *   tail. numbers: 0, 0, n, m. Both runs accept such a map with this C, every source below n and every K of 2 to 64.
+ * Refuses: line by line, 18, then 19 (a second p line, an arc before it or beyond m), then the p line by 1, 4, 2, then 10 with place 0
+ *   starts, 1 heads, 2 costs, and an a line by 12 (tail outside 1 to n), 7 (head outside 1 to n), 8, each with the number of arcs before it;
+ *   at the end 19 with the last line, 1 for an empty file, if the p line or an arc is lacking; in this order, the first found.
+ * Costs: time in proportion to the bytes and n, the bytes read three times; stack below 1 KB.
+ */
+void roosternow_read_dimacs(const uint8_t *bytes, size_t bytes_length, uint32_t ceiling,
+                            uint32_t *starts, size_t starts_words,
+                            uint32_t *heads, size_t heads_words,
+                            uint32_t *costs, size_t costs_words,
+                            uint64_t numbers[ROOSTERNOW_LENT(ROOSTERNOW_DIMACS_NUMBERS)]);
 
 /*
  * The text that the program `plan` prints for a planning file: both runs, with distances and parents, or one line `refused,NUMBER,PLACE`.

@@ -23,10 +23,12 @@ static bool one_in(uint32_t chances) {
 
 /* ---- what was called */
 
-enum function { ONE_LEVEL, TWO_LEVEL, ROUTE, READ, ANSWER, FUNCTIONS };
+enum function { ONE_LEVEL, TWO_LEVEL, ROUTE, READ, READ_DIMACS, ANSWER, FUNCTIONS };
 
-static const char *const names[FUNCTIONS] = {"one_level", "two_level", "route", "read", "answer"};
-static uint64_t told[FUNCTIONS][18];
+#define REFUSALS 20
+
+static const char *const names[FUNCTIONS] = {"one_level", "two_level", "route", "read", "read_dimacs", "answer"};
+static uint64_t told[FUNCTIONS][REFUSALS];
 static uint64_t input;
 
 static void expect(bool holds, const char *what) {
@@ -288,11 +290,10 @@ static void write_file(void) {
 }
 
 /* A byte changed, left out or put in, or the file cut. */
-static void damage_file(void) {
-    static const char drawn[] = "0123456789,\n -\r";
+static void damage_file(const char *drawn) {
     uint8_t *text = bytes_of(&bytes);
     size_t at = below((uint32_t)bytes.length + 1);
-    uint8_t byte = one_in(8) ? (uint8_t)below(256) : (uint8_t)drawn[below(sizeof drawn - 1)];
+    uint8_t byte = one_in(8) ? (uint8_t)below(256) : (uint8_t)drawn[below((uint32_t)strlen(drawn))];
     switch (below(4)) {
     case 0: if (at < bytes.length) text[at] = byte; break;
     case 1: if (at < bytes.length) memmove(text + at, text + at + 1, bytes.length-- - at - 1); break;
@@ -301,23 +302,40 @@ static void damage_file(void) {
     }
 }
 
-static void draw_file(uint32_t damage) {
-    write_file();
-    while (bytes.length > 0 && one_in(damage)) damage_file();
+/* What was written is damaged, now and then, by bytes of those drawn. */
+static void finish_file(uint32_t damage, const char *drawn) {
+    while (bytes.length > 0 && one_in(damage)) damage_file(drawn);
     memset(bytes.base, GUARD_BYTE, GUARD);
     settle(&bytes);
+}
+
+static void draw_file(uint32_t damage) {
+    write_file();
+    finish_file(damage, "0123456789,\n -\r");
 }
 
 static const uint8_t *bytes_or_null(void) {
     return bytes.length == 0 && one_in(2) ? NULL : bytes_of(&bytes);
 }
 
-static void call_read(uint32_t damage) {
-    uint64_t *numbers = lend_numbers(&run_numbers, ROOSTERNOW_READ_NUMBERS);
+static void lend_map(uint32_t damage) {
     uint32_t n = map.n <= PLAIN_NODES ? map.n : PLAIN_NODES, m = (uint32_t)heads.length;
     lend(&starts, one_in(damage) ? below(n + 1) : (size_t)n + 1 + below(4)), keep(&starts);
     lend(&heads, one_in(damage) ? below(m + 1) : m + below(4)), keep(&heads);
     lend(&costs, one_in(damage) ? below(m + 1) : m + below(4)), keep(&costs);
+}
+
+/* The map of the file in the lists, or every word as it was. */
+static void compare_read(bool accepted) {
+    compare(&bytes, NULL, 0, "read: bytes changed");
+    compare(&starts, file.starts, accepted ? (size_t)file.n + 1 : 0, "read: starts");
+    compare(&heads, file.heads, accepted ? file.m : 0, "read: heads");
+    compare(&costs, file.costs, accepted ? file.m : 0, "read: costs");
+}
+
+static void call_read(uint32_t damage) {
+    uint64_t *numbers = lend_numbers(&run_numbers, ROOSTERNOW_READ_NUMBERS);
+    lend_map(damage);
     roosternow_read(bytes_or_null(), bytes.length, words_or_null(&starts), starts.length, words_or_null(&heads), heads.length,
                     words_or_null(&costs), costs.length, numbers);
     size_t lent[3] = {starts.length, heads.length, costs.length};
@@ -329,10 +347,73 @@ static void call_read(uint32_t damage) {
     }
     told[READ][fault.number]++;
     compare(&run_numbers, expected, ROOSTERNOW_READ_NUMBERS, "read: numbers");
-    compare(&bytes, NULL, 0, "read: bytes changed");
-    compare(&starts, file.starts, accepted ? (size_t)file.n + 1 : 0, "read: starts");
-    compare(&heads, file.heads, accepted ? file.m : 0, "read: heads");
-    compare(&costs, file.costs, accepted ? file.m : 0, "read: costs");
+    compare_read(accepted);
+}
+
+/* ---- road files */
+
+/* A text behind what the file has. */
+static void append(const char *text) {
+    size_t length = strlen(text);
+    expect(bytes.length + length + 1 < bytes.capacity, "a road file of the test is too long");
+    memcpy(bytes_of(&bytes) + bytes.length, text, length + 1);
+    bytes.length += length;
+}
+
+static void append_comments(void) {
+    static const char *const comments[] = {"c\n", "c a 1 1 1\n", "cp sp 1 1\n", "c \r\n", "c\t0 \xff\n"};
+    while (one_in(12)) append(comments[below(sizeof comments / sizeof comments[0])]);
+}
+
+static void append_problem(void) {
+    char text[64];
+    size_t arcs = one_in(300) ? 65535 + below(4) : one_in(40) ? heads.length + 1 - below(3) : heads.length;
+    snprintf(text, sizeof text, "p sp %" PRIu32 " %zu\n", map.n, arcs);
+    append(text);
+}
+
+/* Arc a of the lists, with nodes from 1; a bad one has a tail and a head from 0 to n + 1. */
+static void append_arc(uint32_t a, uint32_t tail, bool bad) {
+    char text[64];
+    uint64_t from = bad ? below(map.n + 2) : (uint64_t)tail + 1, to = bad ? below(map.n + 2) : (uint64_t)words_of(&heads)[a] + 1;
+    snprintf(text, sizeof text, "a %" PRIu64 " %" PRIu64 " %" PRIu32 "\n", from, to, words_of(&costs)[a]);
+    append(text);
+}
+
+/* The map of the lists as a road file, its arcs in any order. */
+static void write_road(void) {
+    static uint32_t tails[PLAIN_ARCS + 8], order[PLAIN_ARCS + 8];
+    uint32_t m = (uint32_t)heads.length, tail = 0;
+    uint32_t again = one_in(30) ? below(m + 1) : m, bad = one_in(8) ? below(m + 1) : m;
+    for (uint32_t a = 0; a < m; a++) {
+        while (tail + 1 < map.n && tail + 1 < starts.length && words_of(&starts)[tail + 1] <= a) tail++;
+        uint32_t other = below(a + 1);
+        tails[a] = tail, order[a] = order[other], order[other] = a;
+    }
+    bytes.length = 0;
+    append_comments();
+    if (!one_in(40)) append_problem();
+    for (uint32_t i = 0; i < m; i++) {
+        append_comments();
+        if (i == again) append_problem();
+        append_arc(order[i], tails[order[i]], i == bad);
+    }
+    append_comments();
+    finish_file(3, "0123456789 \n cpas\r-");
+}
+
+static void call_read_dimacs(uint32_t damage) {
+    uint64_t *numbers = lend_numbers(&run_numbers, ROOSTERNOW_DIMACS_NUMBERS);
+    lend_map(damage);
+    roosternow_read_dimacs(bytes_or_null(), bytes.length, map.ceiling, words_or_null(&starts), starts.length, words_or_null(&heads),
+                           heads.length, words_or_null(&costs), costs.length, numbers);
+    size_t lent[3] = {starts.length, heads.length, costs.length};
+    struct plain_fault fault = plain_read_dimacs(bytes_of(&bytes), bytes.length, map.ceiling, lent, &file);
+    bool accepted = fault.number == 0;
+    uint64_t expected[ROOSTERNOW_DIMACS_NUMBERS] = {fault.number, fault.place, accepted ? file.n : 0, accepted ? file.m : 0};
+    told[READ_DIMACS][fault.number]++;
+    compare(&run_numbers, expected, ROOSTERNOW_DIMACS_NUMBERS, "read_dimacs: numbers");
+    compare_read(accepted);
 }
 
 /* ---- the text */
@@ -425,13 +506,13 @@ static void call_from_threads(void) {
 
 /* ---- all */
 
-/* Every refusal that a function can make has to be seen, as rows of document 01's table. */
+/* Every refusal that a function can make has to be seen, as rows of the documents' table. */
 static void report(uint64_t inputs) {
-    static const uint32_t possible[FUNCTIONS] = {0x5FF, 0x7FF, 0x3C4FB, 0x1F9F, 0x3F9F};
+    static const uint32_t possible[FUNCTIONS] = {0x5FF, 0x7FF, 0x3C4FB, 0x1F9F, 0xC1597, 0x3F9F};
     for (int function = 0; function < FUNCTIONS; function++) {
         uint64_t calls = 0;
-        printf("%-9s", names[function]);
-        for (int number = 0; number < 18; number++) {
+        printf("%-11s", names[function]);
+        for (int number = 0; number < REFUSALS; number++) {
             calls += told[function][number];
             if (told[function][number]) printf(" %d:%" PRIu64, number, told[function][number]);
             bool seen = told[function][number] > 0, can = possible[function] >> number & 1;
@@ -483,6 +564,10 @@ int main(int count, char **words) {
         while (!large && one_in(4)) damage_map();
         draw_file(2);
         call_read(16);
+        draw_some_map(large);
+        while (!large && one_in(4)) damage_map();
+        write_road();
+        call_read_dimacs(16);
         draw_map_for_answer();
         draw_file(3);
         call_answer();

@@ -42,6 +42,12 @@ __attribute__((noinline)) static void *call_read(void *unused) {
     return unused;
 }
 
+__attribute__((noinline)) static void *call_read_dimacs(void *unused) {
+    frame = (uintptr_t)__builtin_frame_address(0);
+    roosternow_read_dimacs(file, file_length, 1048575, starts, NODES + 1, heads, NODES, costs, NODES, numbers);
+    return unused;
+}
+
 __attribute__((noinline)) static void *call_answer(void *unused) {
     frame = (uintptr_t)__builtin_frame_address(0);
     numbers[ROOSTERNOW_RETURNED] = roosternow_answer(file, file_length, starts, heads, costs, distances, parents, roster, work, output) == 0;
@@ -80,6 +86,14 @@ static void write_file(void) {
     }
 }
 
+/* The same arcs, those of the last node first. */
+static void write_road(void) {
+    file_length = (size_t)sprintf((char *)file, "c\np sp %d %d\n", FILE_NODES, FILE_ARCS);
+    for (int a = FILE_ARCS - 1; a >= 0; a--) {
+        file_length += (size_t)sprintf((char *)file + file_length, "a %d %d %d\n", a / 4 + 1, (a * 7 + 1) % FILE_NODES + 1, a * 509 % 1048576);
+    }
+}
+
 static void print(const char *name, void *(*call)(void *)) {
     size_t bytes = taken(call);
     if (numbers[ROOSTERNOW_RETURNED] != 0) abort();
@@ -94,5 +108,7 @@ int main(void) {
     write_file();
     print("roosternow_read", call_read);
     print("roosternow_answer", call_answer);
+    write_road();
+    print("roosternow_read_dimacs", call_read_dimacs);
     return 0;
 }

@@ -5,6 +5,7 @@ use Rattle.model.specs.declared.Counts.{Counts}
 use Rattle.model.specs.Answers.{Numbers}
 use Rattle.route.specs.Routes.{RouteNumbers}
 use Rattle.reader.specs.Promise.{PlanNumbers}
+use Rattle.dimacs.specs.Promise.{DimacsNumbers}
 
 -- The counts: decreases, placements and looks (document 01, "The tallies").
 abbrev pub countsAsWords : Counts → List ℕ
@@ -24,3 +25,7 @@ routeWords numbers = numbers .returned ∷ numbers .place ∷ numbers .nodes ∷
 abbrev pub readWords : PlanNumbers → List ℕ
 readWords numbers =
     numbers .returned ∷ numbers .place ∷ numbers .nodes ∷ numbers .arcs ∷ numbers .ceiling ∷ numbers .source ∷ numbers .segments ∷ []
+
+-- Number and place, then n and m (document 02, paper 1).
+abbrev pub dimacsWords : DimacsNumbers → List ℕ
+dimacsWords numbers = numbers .returned ∷ numbers .place ∷ numbers .nodes ∷ numbers .arcs ∷ []

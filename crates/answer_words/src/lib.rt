@@ -1,4 +1,5 @@
 // The numbers of each answer as the words of an array, for callers that take no enum (document 01, "What a call returns").
+use dimacs::DimacsAnswer;
 use model::RunAnswer;
 use reader::PlanAnswer;
 use route::RouteAnswer;
@@ -6,7 +7,8 @@ ghost use mathlib.Core.Path.{_≡_};
 ghost use Rattle.model.specs.Answers.{numbersOf};
 ghost use Rattle.route.specs.Routes.{routeNumbersOf};
 ghost use Rattle.reader.specs.Promise.{planNumbersOf};
-ghost use Rattle.answer_words.specs.Words.{runWords, routeWords, readWords};
+ghost use Rattle.dimacs.specs.Promise.{dimacsNumbersOf};
+ghost use Rattle.answer_words.specs.Words.{runWords, routeWords, readWords, dimacsWords};
 
 pub fn run_words(answer: RunAnswer) -> [u64; 7]
     ensures { λ r. ⌜ r ≡ runWords (numbersOf answer) ⌝ }
@@ -58,5 +60,14 @@ pub fn read_words(answer: PlanAnswer) -> [u64; 7]
             segments as u64,
         ],
         PlanAnswer::Refused { number, place } => [number as u64, place as u64, 0, 0, 0, 0, 0],
+    }
+}
+
+pub fn dimacs_words(answer: DimacsAnswer) -> [u64; 4]
+    ensures { λ r. ⌜ r ≡ dimacsWords (dimacsNumbersOf answer) ⌝ }
+{
+    match answer {
+        DimacsAnswer::Read { nodes, arcs } => [0, 0, nodes as u64, arcs as u64],
+        DimacsAnswer::Refused { number, place } => [number as u64, place as u64, 0, 0],
     }
 }

@@ -11,7 +11,9 @@ use Rattle.route.specs.declared.RouteAnswer.{RouteAnswer}
 use Rattle.route.specs.Routes.{routeNumbersOf, RoutePromised}
 use Rattle.reader.specs.declared.PlanAnswer.{PlanAnswer}
 use Rattle.reader.specs.Promise.{planNumbersOf, PlanPromised}
-use Rattle.answer_words.specs.Words.{runWords, routeWords, readWords}
+use Rattle.dimacs.specs.declared.DimacsAnswer.{DimacsAnswer}
+use Rattle.dimacs.specs.Promise.{dimacsNumbersOf, DimacsPromised}
+use Rattle.answer_words.specs.Words.{runWords, routeWords, readWords, dimacsWords}
 
 -- The version of the archive, MAJOR × 1000 + MINOR: ROOSTERNOW_VERSION of its header.
 abbrev pub archiveVersion : ℕ
@@ -42,3 +44,9 @@ pub record ReadHanded (bytes starts heads costs starts′ heads′ costs′ numb
   pub answer : PlanAnswer
   pub promised : PlanPromised bytes starts heads costs starts′ heads′ costs′ answer
   pub numbers : numbers′ ≡ readWords (planNumbersOf answer)
+
+-- The reader of road files: its promise, and the numbers of its answer (document 02, paper 1).
+pub record DimacsHanded (bytes : List ℕ) (C : ℕ) (starts heads costs starts′ heads′ costs′ numbers′ : List ℕ) : Type 0 where
+  pub answer : DimacsAnswer
+  pub promised : DimacsPromised bytes C starts heads costs starts′ heads′ costs′ answer
+  pub numbers : numbers′ ≡ dimacsWords (dimacsNumbersOf answer)

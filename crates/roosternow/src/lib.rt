@@ -2,6 +2,7 @@
 // lent array of fixed size (document 01, "What a call returns").
 mod text;
 
+use answer_words::dimacs_words;
 use answer_words::read_words;
 use answer_words::route_words;
 use answer_words::run_words;
@@ -9,7 +10,7 @@ use model::Node;
 ghost use mathlib.Core.Path.{_≡_};
 ghost use Rattle.theory.specs.Runs.{inputs};
 ghost use Rattle.runs.specs.Promise.{lent};
-ghost use Rattle.roosternow.specs.Handing.{archiveVersion, OneLevelHanded, TwoLevelHanded, RouteHanded, ReadHanded};
+ghost use Rattle.roosternow.specs.Handing.{archiveVersion, OneLevelHanded, TwoLevelHanded, RouteHanded, ReadHanded, DimacsHanded};
 
 const VERSION: u32 = 2000;
 
@@ -132,4 +133,21 @@ pub extern "C" fn roosternow_read(
 {
     let answer = reader::read(bytes, starts, heads, costs);
     *numbers = read_words(answer);
+}
+
+// The map of a road file.
+#[no_mangle]
+pub extern "C" fn roosternow_read_dimacs(
+    bytes: &[u8],
+    ceiling: u32,
+    starts: &mut [u32],
+    heads: &mut [u32],
+    costs: &mut [u32],
+    numbers: &mut [u64; 4],
+)
+    ensures { λ _. ⌜ DimacsHanded (now (bytes .entry)) ceiling (now (starts .entry)) (now (heads .entry)) (now (costs .entry))
+        (now (starts .exit)) (now (heads .exit)) (now (costs .exit)) (now (numbers .exit)) ⌝ }
+{
+    let answer = dimacs::read(bytes, ceiling, starts, heads, costs);
+    *numbers = dimacs_words(answer);
 }
