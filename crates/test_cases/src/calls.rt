@@ -3,13 +3,13 @@
 use crate::lists::COSTS;
 use crate::lists::HEADS;
 use crate::lists::PARENTS;
-use crate::lists::front;
 use crate::lists::part;
-use crate::planning_file::made;
-use crate::printing::print_byte_sums;
-use crate::printing::print_sums;
-use crate::rows::Row;
 use model::Node;
+use test_rows::bytes::made;
+use test_rows::lists::front;
+use test_rows::printing::print_byte_sums;
+use test_rows::printing::print_sums;
+use test_rows::rows::Row;
 
 // Row: one N,C,SOURCE STARTS,HEADS,COSTS DISTANCES,PARENTS,ROSTER,WORK
 fn one_level(row: Row, starts: &[u32], heads: &[u32], costs: &[u32]) {

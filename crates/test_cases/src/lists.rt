@@ -1,5 +1,5 @@
 // The lists that a map is lent in, one behind the other: 4,098 words of starts, 65,537 of heads and of costs, 4,098 of parents.
-use crate::rows::Row;
+use test_rows::rows::Row;
 
 pub type Map = [u32; 139270];
 
@@ -32,7 +32,7 @@ pub fn put_words(map: &mut Map, row: Row, line: &[u8]) {
     let mut next = row.words;
     let mut i = place(row.n1, row.n2);
     while i < 139270 && next < line.len() {
-        let read = crate::rows::field_at(line, next);
+        let read = test_rows::rows::field_at(line, next);
         map[i] = read.value;
         next = read.next;
         i += 1;
@@ -87,13 +87,4 @@ pub fn part(map: &[u32], from: u32, words: u32) -> &[u32] {
         return map;
     }
     &map[start..end]
-}
-
-// The first words of a lent list, or all of it if it has no more.
-pub fn front(list: &mut [u32], words: u32) -> &mut [u32] {
-    let count = words as usize;
-    if count > list.len() {
-        return list;
-    }
-    &mut list[..count]
 }

@@ -2,28 +2,29 @@
 // output repeats every row and has behind it what the row gave. The head of crates/test_cases/stdin says what each row is.
 use lists::Map;
 use planning_file::File;
+use test_rows::bytes;
+use test_rows::rows;
 
 mod calls;
 mod lists;
 mod planning_file;
 mod printing;
-mod rows;
 
 // One row, told by the first letter of its word; gives back how many bytes the planning file then has.
 fn act(line: &[u8], map: &mut Map, file: &mut File, written: usize) -> usize {
-    printing::print_line(line);
+    test_rows::printing::print_line(line);
     let row = rows::row_of(line);
     let word = row.word;
     match word {
         b'w' => lists::put_words(map, row, line),
         b'f' | b'd' => lists::spread(map, row),
         b'o' | b't' | b'r' => calls::call(row, map),
-        b'p' => calls::plan(planning_file::made(file, written)),
+        b'p' => calls::plan(bytes::made(file, written)),
         _ => (),
     }
     match word {
-        b'l' => planning_file::append_line(file, written, line, row.text),
-        b'h' => planning_file::append(file, written, line, row.text),
+        b'l' => bytes::append_line(file, written, line, row.text),
+        b'h' => bytes::append(file, written, line, row.text),
         b'b' => planning_file::fill_up(file, written, row),
         b'a' => planning_file::append_arcs(file, written, map, row),
         b'p' => 0,

@@ -2,34 +2,10 @@
 use crate::lists::place;
 use crate::lists::quotient;
 use crate::lists::word_at;
-use crate::rows::Row;
+use test_rows::bytes::append_number;
+use test_rows::rows::Row;
 
 pub type File = [u8; 65537];
-
-fn put(file: &mut File, at: usize, byte: u8) -> usize {
-    if at < 65537 {
-        file[at] = byte;
-        return at + 1;
-    }
-    at
-}
-
-// Row: half TEXT
-pub fn append(file: &mut File, at: usize, bytes: &[u8], from: usize) -> usize {
-    let mut next = at;
-    let mut i = from;
-    while i < bytes.len() {
-        next = put(file, next, bytes[i]);
-        i += 1;
-    }
-    next
-}
-
-// Row: line TEXT
-pub fn append_line(file: &mut File, at: usize, bytes: &[u8], from: usize) -> usize {
-    let next = append(file, at, bytes, from);
-    put(file, next, b'\n')
-}
 
 // Row: bytes BYTE,END
 pub fn fill_up(file: &mut File, at: usize, row: Row) -> usize {
@@ -41,13 +17,6 @@ pub fn fill_up(file: &mut File, at: usize, row: Row) -> usize {
         next += 1;
     }
     next
-}
-
-fn append_number(file: &mut File, at: usize, number: u32, ended_by: u8) -> usize {
-    let mut digits = [0u8; 20];
-    let count = io::decimal(number as u64, &mut digits);
-    let next = append(file, at, &digits[..count], 0);
-    put(file, next, ended_by)
 }
 
 // An arc of the map, where so many leave each node.
@@ -67,13 +36,4 @@ pub fn append_arcs(file: &mut File, at: usize, map: &[u32], row: Row) -> usize {
         arc += 1;
     }
     next
-}
-
-// The file made so far.
-pub fn made(file: &[u8], length: usize) -> &[u8] {
-    if length > file.len() {
-        return file;
-    }
-    let end = length;
-    &file[0..end]
 }

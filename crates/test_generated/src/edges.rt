@@ -9,7 +9,7 @@ use test_reference_map::map::Lists;
 const NO_LIST: u64 = 135192;
 
 // One of three numbers.
-fn one_of(word: u64, first: u32, second: u32, third: u32) -> u32 {
+pub fn one_of(word: u64, first: u32, second: u32, third: u32) -> u32 {
     match random::below(word, 3) {
         0 => first,
         1 => second,
@@ -18,11 +18,11 @@ fn one_of(word: u64, first: u32, second: u32, third: u32) -> u32 {
 }
 
 // One less and one more.
-fn before(number: u32) -> u32 {
+pub fn before(number: u32) -> u32 {
     std::num::wrapping_sub_u32(number, 1)
 }
 
-fn after(number: u32) -> u32 {
+pub fn after(number: u32) -> u32 {
     std::num::wrapping_add_u32(number, 1)
 }
 

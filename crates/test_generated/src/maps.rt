@@ -38,7 +38,7 @@ pub struct Map {
 }
 
 // Costs up to 15, 1,023, 65,535 or 1,048,575, each as often.
-fn any_ceiling(word: u64) -> u32 {
+pub fn any_ceiling(word: u64) -> u32 {
     let more = random::next(word);
     match random::below(word, 4) {
         0 => random::below(more, 16),
@@ -67,11 +67,11 @@ pub fn small(rule: u32, number: u32) -> Map {
 }
 
 // Sums and products of small numbers.
-fn plus(a: u32, b: u32) -> u32 {
+pub fn plus(a: u32, b: u32) -> u32 {
     std::num::wrapping_add_u32(a, b)
 }
 
-fn minus(a: u32, b: u32) -> u32 {
+pub fn minus(a: u32, b: u32) -> u32 {
     if a < b {
         return 0;
     }
@@ -89,7 +89,7 @@ fn over(a: u32, b: u32) -> u32 {
     a / b
 }
 
-fn rest(a: u32, b: u32) -> u32 {
+pub fn rest(a: u32, b: u32) -> u32 {
     minus(a, times(over(a, b), b))
 }
 

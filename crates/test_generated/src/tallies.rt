@@ -29,10 +29,15 @@ pub fn print_found(cases: u64, differences: u64) {
     io::write_all(1, b"\n");
 }
 
-// A line for each number.
+// A line for each number that the functions of document 01 return.
 pub fn print(tallies: &Table) {
+    print_below(tallies, 18);
+}
+
+// A line for each number below an end.
+pub fn print_below(tallies: &Table, end: u64) {
     let mut number = 0;
-    while number < 18 {
+    while number < end {
         io::write_all(1, b"returned ");
         io::print_decimal(1, number);
         let cases = nodes::get(tallies, CASES, number);

@@ -39,7 +39,7 @@ fn digits(number: u64) -> u64 {
     count
 }
 
-fn number(output: &mut Text, at: u64, written: u64) -> u64 {
+pub fn number(output: &mut Text, at: u64, written: u64) -> u64 {
     let mut left = digits(written);
     let mut place = at;
     while left > 0 {

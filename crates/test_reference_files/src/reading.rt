@@ -16,9 +16,9 @@ struct DigitsRead {
 }
 
 // A field and the place past what ends it.
-struct FieldRead {
-    number: u64,
-    next: u64,
+pub struct FieldRead {
+    pub number: u64,
+    pub next: u64,
 }
 
 // Line 1, and the place past it.
@@ -71,7 +71,7 @@ fn digits(bytes: &[u8], from: u64) -> DigitsRead {
 }
 
 // 1 to 7 digits, no leading zero except 0 itself, then the byte that ends the field.
-fn field(bytes: &[u8], from: u64, last: u64) -> FieldRead {
+pub fn field(bytes: &[u8], from: u64, last: u64) -> FieldRead {
     let read = digits(bytes, from);
     let count = read.count;
     let past = words::sum(from, count);

@@ -1,10 +1,10 @@
 // The text for planning files beside the reference's, byte for byte, and the lists lent, word for word (document 01, "Planning file").
-use crate::damage;
 use crate::expected;
 use crate::expected::Printed;
 use crate::rendering;
-use crate::rendering::Rendered;
+use test_damage::Rendered;
 use test_generated::lists;
+use test_generated::random;
 use test_generated::tallies::Found;
 use test_reference_files::printing::Text;
 use test_reference_map::map;
@@ -28,15 +28,6 @@ struct Answered {
     parents: ByNode,
     roster: ByNode,
     work: [u32; 2432],
-}
-
-// The first bytes of a file.
-fn front(bytes: &[u8], length: u64) -> &[u8] {
-    let end = length as usize;
-    if end > bytes.len() {
-        return bytes;
-    }
-    &bytes[..end]
 }
 
 fn answer(bytes: &[u8]) -> Answered {
@@ -153,7 +144,7 @@ fn compare(file: Rendered) -> Found {
     let mut table = [0u64; 45056];
     let mut text = [88u8; 65544];
     let bytes = file.bytes;
-    let input = front(&bytes, file.length);
+    let input = test_damage::front(&bytes, file.length);
     let printed = expected::text(input, &mut lists, &mut table, &mut text);
     let answered = answer(input);
     Found {
@@ -162,12 +153,26 @@ fn compare(file: Rendered) -> Found {
     }
 }
 
+// So long that the program takes a file just or not any more; most are not made longer.
+fn least_length(number: u32) -> u64 {
+    match number % 100 {
+        7 => 65536,
+        9 => 65537,
+        _ => 0,
+    }
+}
+
+fn damaged_file(file: Rendered, number: u32) -> Rendered {
+    let word = random::seed(97, number);
+    test_damage::damaged(file, b",\n\r- 0", word, least_length(number))
+}
+
 // The planning file of a number: as it is to be, or of those damaged every second with edges in it and the others damaged.
 pub fn try_file(damaged: bool, number: u32) -> Found {
     let even = number % 2 == 0;
     let file = rendering::render_number(number, damaged & even);
     if damaged & !even {
-        return compare(damage::damaged(file, number));
+        return compare(damaged_file(file, number));
     }
     compare(file)
 }

@@ -5,7 +5,6 @@ use test_generated::tallies;
 use test_reference_map::nodes::Table;
 use test_reference_map::words;
 
-mod damage;
 mod expected;
 mod files;
 mod rendering;

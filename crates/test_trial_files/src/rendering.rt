@@ -1,4 +1,5 @@
 // A map rendered as a planning file (document 01, "Planning file").
+use test_damage::Rendered;
 use test_generated::case;
 use test_generated::edges;
 use test_generated::lists;
@@ -11,12 +12,6 @@ use test_reference_map::case::Case;
 use test_reference_map::map;
 use test_reference_map::map::Lists;
 use test_reference_map::words;
-
-// A file's bytes, and how many of them it has.
-pub struct Rendered {
-    pub bytes: Text,
-    pub length: u64,
-}
 
 // Line 1: n, m, C, source and K.
 fn render_header(case: Case, bytes: &mut Text) -> u64 {
