@@ -1,34 +1,79 @@
--- A map, a ceiling and a source pass their checks exactly if they are valid; what the checks of a run say besides. Assumes nothing.
+-- The lists of a map pass their checks exactly if they are sound, and a map, a ceiling and a source exactly if they are valid; what the
+-- checks of a run say besides. Assumes nothing.
 use mathlib.Core.Path.{_≡_, refl, sym, _∙_}
 use mathlib.Core.List.{List, _++_}
-use Prim.Native.Nat.{ℕ, suc, _+_, _-_}
+use Prim.Native.Nat.{ℕ, suc, _+_, _-_, _≤_}
 use native.Mathlib.Numerals.{add-one}
 use native.Mathlib.Omega.{arith}
 use lib.ListN.{length}
 use Rattle.model.specs.declared.Check.the-variants.{Passed}
 use Rattle.model.specs.declared.Check.{Check}
+use Rattle.theory.specs.Maps.{Map, arcs, Sound}
 use Rattle.theory.specs.Runs.{Inputs, ValidInputs, Levels, one, two, Allowed, workWords}
-use Rattle.check_lists.specs.Lists.{NoneFalls}
+use Rattle.check_numbers.specs.Numbers.{nodesCheck, sourceCheck, startCountCheck}
+use Rattle.check_lists.specs.Lists.{startsCheck, headsCheck, NoneFalls}
 use Rattle.check_lists.proofs.Start.{rise-passes, passed-fits}
 use Rattle.check_lists.proofs.Words.{heads-below, heads-pass, costs-most, costs-pass}
 use Rattle.checks.specs.Checks.{firstFault, sizeChecks, mapChecks, lentChecks, runLists, levelsChecks, runChecks, Lengths, Ready}
 use Rattle.checks.proofs.Order.{AllPass, none, more, passed-all, all-passed, first-passed, pass-parts, parts-pass}
 use Rattle.checks.proofs.Sizes.{passed-range, range-passes, passed-ceiling, ceiling-passes, passed-source, source-passes, passed-arcs, arcs-pass, passed-starts, starts-pass, passed-lent, lent-passes}
 
+-- ---- the lists of a map
+
+-- The checks of a map that look at no cost pass. Number 4 stands as what it shows, since a route makes it without costs.
+pub record ListsPass (M : Map) (source : ℕ) : Type 0 where
+  pub nodes : nodesCheck (M .nodes) ≡ Passed
+  pub from : sourceCheck (M .nodes) source ≡ Passed
+  pub few : arcs M ≤ 65536
+  pub paired : length (M .costs) ≡ arcs M
+  pub count : startCountCheck (M .nodes) (length (M .starts)) ≡ Passed
+  pub words : startsCheck (M .nodes) (arcs M) (M .starts) ≡ Passed
+  pub below : headsCheck (M .nodes) (M .heads) ≡ Passed
+
+module _ {M : Map} {source : ℕ} where
+  pub passed-sound : ListsPass M source → Sound M source
+  passed-sound p =
+      let range = passed-range 1 (M .nodes) 1 4096 (p .nodes) in
+      let fits = passed-fits (M .nodes) (arcs M) (M .starts) (p .words) in
+      record {
+        some-node = range .0;
+        few-nodes = range .1;
+        source-node = passed-source (M .nodes) source (p .from);
+        few-arcs = p .few;
+        costs-length = p .paired;
+        starts-length = passed-starts (M .nodes) (length (M .starts)) (p .count) ∙ add-one (M .nodes);
+        starts-first = fits 0 (omega arith) .first refl;
+        starts-rise = λ v l.
+            let e : suc v - 1 ≡ v = omega arith in
+            rw e at (fits (suc v) (omega arith) .rises (omega arith));
+        starts-last = fits (M .nodes) (omega arith) .last refl;
+        heads-nodes = heads-below (M .nodes) (M .heads) (p .below);
+      }
+
+  pub sound-passed : Sound M source → ListsPass M source
+  sound-passed s = record {
+    nodes = range-passes 1 (M .nodes) 1 4096 (s .some-node) (s .few-nodes);
+    from = source-passes (M .nodes) source (s .source-node);
+    few = s .few-arcs;
+    paired = s .costs-length;
+    count = starts-pass (M .nodes) (length (M .starts)) long;
+    words = rise-passes (M .nodes) (arcs M) (M .starts) long (s .starts-first) (s .starts-last) rise;
+    below = heads-pass (M .nodes) (M .heads) (s .heads-nodes);
+  }
+    where
+      long : length (M .starts) ≡ M .nodes + 1
+      long = s .starts-length ∙ sym (add-one (M .nodes))
+
+      rise : NoneFalls (M .starts)
+      rise i l p =
+          let e : suc (i - 1) ≡ i = omega arith in
+          rw e at (s .starts-rise (i - 1) (omega (arith, s .starts-length)))
+
 -- ---- a map
 
 module _ (I : Inputs) where
-  abbrev n : ℕ
-  n = I .map .nodes
-
   abbrev C : ℕ
   C = I .ceiling
-
-  abbrev source : ℕ
-  source = I .source
-
-  abbrev starts : List ℕ
-  starts = I .map .starts
 
   abbrev heads : List ℕ
   heads = I .map .heads
@@ -38,24 +83,11 @@ module _ (I : Inputs) where
 
   valid : AllPass (mapChecks I) → ValidInputs I
   unfolding sizeChecks mapChecks
-  valid (more nodes (more ceiling (more from (more arcs (more count (more words (more below (more most none)))))))) =
-      let range = passed-range 1 n 1 4096 nodes in
-      let counts = passed-arcs (length heads) (length costs) arcs in
-      let fits = passed-fits n (length heads) starts words in
+  valid (more nodes (more ceiling (more from (more both (more count (more words (more below (more most none)))))))) =
+      let counts = passed-arcs (length heads) (length costs) both in
       record {
-        some-node = range .0;
-        few-nodes = range .1;
+        sound = passed-sound (record { nodes = nodes; from = from; few = counts .0; paired = sym (counts .1); count = count; words = words; below = below });
         low-ceiling = passed-ceiling C ceiling;
-        source-node = passed-source n source from;
-        few-arcs = counts .0;
-        costs-length = sym (counts .1);
-        starts-length = passed-starts n (length starts) count ∙ add-one n;
-        starts-first = fits 0 (omega arith) .first refl;
-        starts-rise = λ v l.
-            let e : suc v - 1 ≡ v = omega arith in
-            rw e at (fits (suc v) (omega arith) .rises (omega arith));
-        starts-last = fits n (omega arith) .last refl;
-        heads-nodes = heads-below n heads below;
         costs-most = λ a l. costs-most C costs most a (omega (arith, counts .1));
       }
 
@@ -65,23 +97,16 @@ module _ (I : Inputs) where
   pub valid-passed : ValidInputs I → firstFault (mapChecks I) ≡ Passed
   unfolding sizeChecks mapChecks
   valid-passed v =
+      let p = sound-passed (v .sound) in
       all-passed
-      (more (range-passes 1 n 1 4096 (v .some-node) (v .few-nodes))
+      (more (p .nodes)
       (more (ceiling-passes C (v .low-ceiling))
-      (more (source-passes n source (v .source-node))
-      (more (arcs-pass (length heads) (length costs) (v .few-arcs) (sym (v .costs-length)))
-      (more (starts-pass n (length starts) long)
-      (more (rise-passes n (length heads) starts long (v .starts-first) (v .starts-last) rise)
-      (more (heads-pass n heads (v .heads-nodes))
-      (more (costs-pass C costs (λ a l. v .costs-most a (omega (arith, v .costs-length)))) none))))))))
-    where
-      long : length starts ≡ n + 1
-      long = v .starts-length ∙ sym (add-one n)
-
-      rise : NoneFalls starts
-      rise i l p =
-          let e : suc (i - 1) ≡ i = omega arith in
-          rw e at (v .starts-rise (i - 1) (omega (arith, v .starts-length)))
+      (more (p .from)
+      (more (arcs-pass (length heads) (length costs) (p .few) (sym (p .paired)))
+      (more (p .count)
+      (more (p .words)
+      (more (p .below)
+      (more (costs-pass C costs (λ a l. v .costs-most a (omega (arith, p .paired)))) none))))))))
 
 -- ---- a run
 

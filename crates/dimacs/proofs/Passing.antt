@@ -97,5 +97,5 @@ arcs-in ranged.none = all.none
 arcs-in (ranged.comment rest) = arcs-in rest
 arcs-in (ranged.arc {tail = tail} {head = head} {cost = cost} tail-low tail-high head-low head-high cost-most rest) =
     all.more {x = record { tail = tail - 1; head = head - 1; cost = cost }}
-    (record { tail-node = omega arith; head-node = omega arith; cost-most = cost-most })
+    (record { ends = record { tail-node = omega arith; head-node = omega arith }; cost-most = cost-most })
     (arcs-in rest)

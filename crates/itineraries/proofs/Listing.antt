@@ -91,13 +91,13 @@ module _ (I : Inputs) (l l′ : Lent) {r : RunAnswer} (passed : firstFault (runC
       ran .demanded .cheapest .distances-length,
     );
     routable = λ v node q.
-        rw (ran .parents) (reached-routable valid (ran .demanded .cheapest) v node (λ e. q (lent-distance v node ∙ e)) past h);
+        rw (ran .parents) (reached-routable (valid .sound) (ran .demanded .cheapest) v node (λ e. q (lent-distance v node ∙ e)) past h);
   }
 
   lent-nodes : (v : ℕ) → v < n → (getD (run .search .distances) v 0 ≡ none → ⊥) → lentRoute v ≡ runRoute I v
   lent-nodes v node q =
       ap (λ (parents : List ℕ). nodesTo n (I .source) (I .map .starts) (I .map .heads) parents v) (ran .parents)
-      ∙ nodes-past valid (ran .demanded .cheapest) v node q past
+      ∙ nodes-past (valid .sound) (ran .demanded .cheapest) v node q past
 
   pub lent-lines : routeLines n (l′ .distances) lentRoute ≡ runLines I
   lent-lines = lines-same (l′ .distances) (run .search .distances) lentRoute (runRoute I) n lent-distance lent-nodes

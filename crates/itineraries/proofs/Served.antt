@@ -62,14 +62,14 @@ module _ (bytes : List ℕ) (accepted : planningCheck bytes ≡ Passed) where
 
   module _ (v : ℕ) (reached : Reached M (I .source) v) where
     node : v < M .nodes
-    node = route-node valid (reached .1) (valid .source-node)
+    node = route-node (valid .sound) (reached .1) (valid .sound .source-node)
 
     finite : distance v ≡ none → ⊥
     finite e = cheapest .unreached v node .0 (sym (same-distance v node) ∙ e) reached
 
     -- The nodes of the line are those of a route of the map, which costs the distance.
     pub listed-served : Served M (I .source) (run .search .distances) (run .search .parents) v
-    listed-served = reached-served valid cheapest v node finite
+    listed-served = reached-served (valid .sound) cheapest v node finite
 
     -- The line of a reached node.
     pub line-served : CheapestLine M (I .source) v (lineIfReached v (distance v) (runRoute I v))

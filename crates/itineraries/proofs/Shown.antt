@@ -1,5 +1,6 @@
 -- What the definition gives for files: the listing (document 01, "Planning file"), and an empty file, which is turned down. Assumes nothing.
 use mathlib.Core.Path.{_≡_, refl}
+use Rattle.theory.specs.Maps.{tailFrom}
 use Rattle.theory.specs.Network.{linksFrom, network}
 use Rattle.theory.specs.Search.{label, remove, blank}
 use Rattle.theory.specs.Shape.{logFrom, ceilLog, oneLevelBuckets, oneLevel}
@@ -14,7 +15,7 @@ use Rattle.cursor.specs.Lines.{arcLine, headerLine}
 use Rattle.reader.specs.Checking.{arcChecks, arcsCheck, headerChecks, planCheck}
 use Rattle.reader.specs.Plans.{linesArcs}
 use Rattle.report.specs.Report.{refusedText}
-use Rattle.walk.specs.Walk.{tailFrom, walkBack}
+use Rattle.walk.specs.Walk.{walkBack}
 use Rattle.planning.specs.Planning.{planningCheck}
 use Rattle.itineraries.specs.Itineraries.{routeLine, lineIfReached, routeLines, routesText}
 

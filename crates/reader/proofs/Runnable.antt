@@ -11,7 +11,7 @@ use Rattle.checks.proofs.Order.{AllPass, none, more, passed-all}
 use Rattle.checks.proofs.Sizes.{passed-range, passed-heads, passed-ceiling, passed-source, passed-lent}
 use Rattle.checks.proofs.Valid.{ready-passed}
 use Rattle.grouping.specs.Arcs.{PlanArc, headsOf, costsOf}
-use Rattle.grouping.proofs.Valid.{heads-length, costs-length, arcs-valid}
+use Rattle.grouping.proofs.Valid.{arcs-ends, heads-length, costs-length, arcs-valid}
 use Rattle.cursor.specs.declared.HeaderLine.{HeaderLine}
 use Rattle.cursor.specs.declared.HeaderLine.the-variants.{NoHeader, HeaderRead}
 use Rattle.cursor.specs.Lines.{headerLine}
@@ -45,8 +45,8 @@ module _ (bytes : List ℕ) (starts heads costs : ℕ) where
       let few : length read ≤ 65536 = omega (arith, passed-heads m by-4, shown .count) in
       record {
         valid = arcs-valid n C read (shown .ranged) source (nodes .0) (nodes .1) few (passed-ceiling C by-2) (passed-source n source by-3);
-        heads-count = heads-length n C read (shown .ranged) ∙ shown .count;
-        costs-count = costs-length n C read (shown .ranged) ∙ shown .count;
+        heads-count = heads-length n read (arcs-ends (shown .ranged)) ∙ shown .count;
+        costs-count = costs-length n read (arcs-ends (shown .ranged)) ∙ shown .count;
         segments-low = segments .0;
         segments-high = segments .1;
         starts-fit = passed-lent 0 starts (n + 1) first;

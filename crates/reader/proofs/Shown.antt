@@ -82,5 +82,5 @@ arcs-shown n C (suc left) i before bytes passed = go (arcLine bytes) refl (λ at
           count = ap suc (behind .count);
           rising = rising.more (shown .tail-not-below) (shown .tail-node) (behind .rising);
           ranged =
-              every.more (record { tail-node = shown .tail-node; head-node = shown .head-node; cost-most = shown .cost-most }) (behind .ranged);
+              every.more (record { ends = record { tail-node = shown .tail-node; head-node = shown .head-node }; cost-most = shown .cost-most }) (behind .ranged);
         })

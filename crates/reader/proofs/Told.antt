@@ -88,7 +88,7 @@ module _ {bytes starts heads costs starts′ heads′ costs′ : List ℕ} {answ
     segments-told = ap (λ (k : PlanNumbers). k .segments) numbers
 
     pub starts-front : (take (n + 1) starts′ ≡ planStarts bytes) × (n + 1 ≤ length starts′)
-    starts-front = front (planStarts bytes) starts (n + 1) (read-told .starts-after) (runnable .valid .starts-length ∙ sym (add-one (H .nodes)) ∙ ap (λ (k : ℕ). k + 1) (sym nodes-told))
+    starts-front = front (planStarts bytes) starts (n + 1) (read-told .starts-after) (runnable .valid .sound .starts-length ∙ sym (add-one (H .nodes)) ∙ ap (λ (k : ℕ). k + 1) (sym nodes-told))
 
     pub heads-front : (take m heads′ ≡ planHeads bytes) × (m ≤ length heads′)
     heads-front = front (planHeads bytes) heads m (read-told .heads-after) (runnable .heads-count ∙ sym arcs-told)

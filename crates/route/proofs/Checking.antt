@@ -1,25 +1,23 @@
 -- What the checks of a route show, and how they come together with the walk. Assumes nothing.
-use Prim.Native.Nat.{ℕ, _+_, _-_, _≤_, _<_}
+use Prim.Native.Nat.{ℕ, _+_, _≤_, _<_}
 use native.Mathlib.Omega.{arith}
 use mathlib.Core.Bool.{Bool, true, false, cond, not, _&&_}
 use mathlib.Core.Path.{_≡_, refl, sym, _∙_, ap}
 use mathlib.Core.List.{List, [], _∷_, _++_}
 use lib.Dec.{ltb, leb, eqb}
-use lib.ListN.{length, getD, drop, replicate, length-replicate}
+use lib.ListN.{length, getD, drop, length-replicate}
 use borrow.Author.Tests.{le-leb, lt-leb, leb-false}
 use Rattle.model.specs.declared.Check.{Check}
 use Rattle.model.specs.declared.Check.the-variants.{Passed, Fault}
 use Rattle.theory.specs.Maps.{parentOf}
 use Rattle.theory.specs.Maps as maps
 use Rattle.theory.proofs.Cases.{differ}
-use Rattle.theory.proofs.Lists.{getD-inside, getD-replicate-same}
+use Rattle.theory.proofs.Lists.{getD-inside}
 use Rattle.check_numbers.specs.Numbers.{faultIf}
-use Rattle.check_lists.proofs.Words.{costs-pass}
-use Rattle.theory.specs.Runs.{inputs}
-use Rattle.checks.specs.Checks.{firstFault, sizeChecks, mapChecks}
-use Rattle.checks.proofs.Order.{AllPass, none, more, passed-all, all-passed, stopped, gone-on}
-use Rattle.checks.proofs.Sizes.{passed-range, passed-heads, ceiling-passes, arcs-pass, passed-starts, passed-lent}
-use Rattle.checks.proofs.Valid.{passed-valid}
+use Rattle.checks.specs.Checks.{firstFault}
+use Rattle.checks.proofs.Order.{AllPass, none, more, passed-all, stopped, gone-on}
+use Rattle.checks.proofs.Sizes.{passed-range, passed-heads, passed-starts, passed-lent}
+use Rattle.checks.proofs.Valid.{passed-sound}
 use Rattle.walk.specs.declared.Walked.the-variants.{NoRoom, Arrived}
 use Rattle.walk.specs.Walk.{Walk, NoWalk, Nodes, Table, walkedOf, walkedWords}
 use Rattle.route.specs.declared.RouteAnswer.{RouteAnswer}
@@ -32,25 +30,25 @@ unfolding tableSizeChecks
 sizes-pass n source starts heads (more nodes (more from (more count (more words none)))) = (passed-range 1 n 1 4096 nodes .0, passed-starts n starts words)
 
 module _ (n source : ℕ) (starts heads : List ℕ) where
-  map-passes : (parents : ℕ) → AllPass (tableChecks n source starts heads parents)
-      → AllPass (mapChecks (inputs n 0 source starts heads (replicate (length heads) 0))) × (n ≤ parents)
-  unfolding tableSizeChecks tableChecks sizeChecks mapChecks
-  map-passes parents (more nodes (more from (more count (more words (more rise (more below (more long none))))))) = (
-    more nodes
-        (more (ceiling-passes 0 (omega arith))
-        (more from
-        (more (arcs-pass (length heads) (length {A = ℕ} (replicate (length heads) 0)) (passed-heads (length heads) count) (sym (length-replicate (length heads) 0)))
-        (more words
-        (more rise
-        (more below
-        (more (costs-pass 0 (replicate (length heads) 0) (λ i l. omega (arith, getD-replicate-same {A = ℕ} (length heads) i 0))) none))))))),
-    passed-lent 1 parents n long,
-  )
+  table-sound : (parents : List ℕ) → AllPass (tableChecks n source starts heads (length parents)) → Table n source starts heads parents
+  unfolding tableSizeChecks tableChecks
+  table-sound parents (more nodes (more from (more few (more count (more words (more below (more long none))))))) = record {
+    sound =
+        passed-sound
+        (record {
+          nodes = nodes;
+          from = from;
+          few = passed-heads (length heads) few;
+          paired = length-replicate (length heads) 0;
+          count = count;
+          words = words;
+          below = below;
+        });
+    long = passed-lent 1 (length parents) n long;
+  }
 
   pub passed-table : (parents : List ℕ) → firstFault (tableChecks n source starts heads (length parents)) ≡ Passed → Table n source starts heads parents
-  passed-table parents e =
-      let p = map-passes (length parents) (passed-all (tableChecks n source starts heads (length parents)) e) in
-      record { valid = passed-valid (inputs n 0 source starts heads (replicate (length heads) 0)) (all-passed (p .0)); long = p .1 }
+  passed-table parents e = table-sound parents (passed-all (tableChecks n source starts heads (length parents)) e)
 
 -- ---- the destination
 

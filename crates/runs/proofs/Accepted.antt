@@ -29,7 +29,7 @@ use Rattle.runs.proofs.Settings.{layoutOf, few-buckets, setting, bucket
 
 -- u(B) fits a word.
 pub top-few : {I : Inputs} → ValidInputs I → I .map .nodes * I .ceiling + 1 < 4294967296
-top-few valid = omega (arith, mul-le-mul (valid .few-nodes) (valid .low-ceiling))
+top-few valid = omega (arith, mul-le-mul (valid .sound .few-nodes) (valid .low-ceiling))
 
 module _ {L : Levels} {I : Inputs} (l : Lent) (ready : Ready L I (lengthsOf l)) where
   abbrev D : Demanded (I .map) (I .source) (heapBuckets L (I .ceiling)) (removalLooks L (I .ceiling)) (stepsOf L I)
@@ -40,7 +40,7 @@ module _ {L : Levels} {I : Inputs} (l : Lent) (ready : Ready L I (lengthsOf l)) 
     pub placements-few : s .tally .insertions + s .tally .decreases + s .tally .shifts < 4294967296
     placements-few =
         let r = mul-le-mul-left (length (stepsOf L I .search .roster)) (few-buckets (I .map .nodes) (I .ceiling) (ready .valid .low-ceiling) L) in
-        omega (arith, r, same-insertions (E .tally), same-decreases (E .tally), same-shifts (E .tally), D .counts .placed, D .counts .few, ready .valid .few-nodes, ready .valid .few-arcs)
+        omega (arith, r, same-insertions (E .tally), same-decreases (E .tally), same-shifts (E .tally), D .counts .placed, D .counts .few, ready .valid .sound .few-nodes, ready .valid .sound .few-arcs)
 
     pub ended-ran : {r : RunAnswer}
         → numbersOf r ≡ acceptedNumbers (s .reached) (heapBuckets L (I .ceiling)) (countsTold (s .tally))
@@ -67,7 +67,7 @@ module _ {L : Levels} {I : Inputs} (l : Lent) (ready : Ready L I (lengthsOf l)) 
 
   pub runs-on : RunsOn (setting ready) (I .map) (I .source) (I .map .nodes * I .ceiling + 1) (workWords L (I .map .nodes)) l
   runs-on = record {
-    runs = record { valid = ready .valid; network-is = refl; starts = starts; roster-long = ready .roster-fit };
+    runs = record { sound = ready .valid .sound; network-is = refl; starts = starts; roster-long = ready .roster-fit };
     distances-fit = ready .distances-fit;
     parents-fit = ready .parents-fit;
     work-fit = ready .work-fit;

@@ -132,7 +132,7 @@ module _ {L : Levels} {I : Inputs} {room : Lengths} (ready : Ready L I room) whe
   slots-few = few-segments n C (ready .valid .low-ceiling) L (ready .allowed)
 
   pub work-fits : WordsFit n ((heapBuckets L C - 1) * segmentCount L + 1) (segmentCount L) (workWords L n)
-  work-fits = fits n C (ready .valid .low-ceiling) L (ready .allowed) (ready .valid .few-nodes)
+  work-fits = fits n C (ready .valid .low-ceiling) L (ready .allowed) (ready .valid .sound .few-nodes)
 
   pub top-same : shapeOf L n C .top ≡ n * C + 1
   top-same = top-is L n C

@@ -122,17 +122,17 @@ module _ {layout : Layout} {sizes starts heads costs : List ℕ} {X : Setting la
     out-links = rw (T .network-is, add-one)
 
     last-low : last ≤ length heads
-    last-low = rw add-one (omega (arith, starts-mono (T .valid) (suc v) (layout .nodes) (omega (arith, step-node)) (omega arith), T .valid .starts-last))
+    last-low = rw add-one (omega (arith, starts-mono (T .sound) (suc v) (layout .nodes) (omega (arith, step-node)) (omega arith), T .sound .starts-last))
 
     step-scans : Scans X before v removed l′ s′ heads costs first last
     step-scans = record {
       stands = R .stands;
       relaxing = rw out-links at (remove-relaxing (X .admissible) (X .lawful) (X .room) (T .resting) (R .fit) (R .least));
       members = λ k q. rw out-links q;
-      rising = rw add-one (T .valid .starts-rise v step-node);
+      rising = rw add-one (T .sound .starts-rise v step-node);
       heads-long = last-low;
-      costs-long = omega (arith, last-low, T .valid .costs-length);
-      few = omega (arith, last-low, T .valid .few-arcs);
+      costs-long = omega (arith, last-low, T .sound .costs-length);
+      few = omega (arith, last-low, T .sound .few-arcs);
     }
 
     more-scanned : length (after .search .roster) ≡ suc (length (h .search .roster))
@@ -159,7 +159,7 @@ module _ {layout : Layout} {sizes starts heads costs : List ℕ} {X : Setting la
 
       step-next : Steps X M source before after l″ s″
       step-next = record {
-        valid = T .valid;
+        sound = T .sound;
         network-is = T .network-is;
         stands = step-stands;
         resting = rw front (scan-resting (X .admissible) (X .lawful) (X .room) (T .resting) (R .fit) (R .least));
@@ -178,7 +178,7 @@ pub start-steps : {layout : Layout} {sizes starts heads costs : List ℕ} {X : S
     → Stands layout (X .shape) roster (heapStart (X .network) (X .shape)) (lists words′ distances′ parents′ roster) s → s .front ≡ 0
     → Steps X (mapOf (layout .nodes) starts heads costs) source roster (heapStart (X .network) (X .shape)) (lists words′ distances′ parents′ roster) s
 start-steps {X} R S front = record {
-  valid = R .valid;
+  sound = R .sound;
   network-is = R .network-is;
   stands = S;
   resting = rw front (start-resting (X .admissible) (X .lawful) (X .room));
@@ -225,7 +225,7 @@ module _ {layout : Layout} {sizes starts heads costs words₀ distances₀ paren
       module _ (P : SomeSteps layout sizes words₀ distances₀ parents₀ roster₀ starts heads costs s₀) where
         -- The node removed has two starts.
         pub stepped-node : r .node .0 + 1 < length starts
-        stepped-node = let T = now P .steps in omega (arith, step-node T (removal T), T .valid .starts-length)
+        stepped-node = let T = now P .steps in omega (arith, step-node T (removal T), T .sound .starts-length)
 
         pub stepped-scans : SomeScans layout sizes words′ distances parents (r .state) heads costs (getD starts (r .node .0) 0) (getD starts (r .node .0 + 1) 0)
         stepped-scans = let T = now P .steps in record { setting = P .setting; before = P .before; roster = roster′; tail = r .node .0; heap = _; scans = step-scans T (removal T) }

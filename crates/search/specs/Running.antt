@@ -3,7 +3,7 @@ use Prim.Native.Nat.{ℕ, _+_, _≤_}
 use mathlib.Core.Path.{_≡_}
 use mathlib.Core.List.{List}
 use lib.ListN.{length}
-use Rattle.theory.specs.Maps.{Map, mapOf, Valid}
+use Rattle.theory.specs.Maps.{Map, mapOf, Sound}
 use Rattle.theory.specs.Network.{network}
 use Rattle.theory.specs.Heap.{Heap, heapFrom, heap}
 use Rattle.theory.specs.Invariants.{Resting}
@@ -15,7 +15,7 @@ use Rattle.search.specs.Starts.{Starts}
 
 -- The lists are as long as a run over the map wants them; what they hold does not matter (document 01, "The search").
 pub record Runs {layout : Layout} {sizes : List ℕ} (X : Setting layout sizes) (M : Map) (source : ℕ) (words distances parents roster : List ℕ) (top : ℕ) : Type 0 where
-  pub valid : Valid M (X .ceiling) source
+  pub sound : Sound M source
   pub network-is : X .network ≡ network M source
   pub starts : Starts X words distances parents top source
   pub roster-long : layout .nodes ≤ length roster
@@ -28,7 +28,7 @@ pub record SomeRuns (layout : Layout) (sizes words distances parents roster star
 -- The words stand for a heap between two removals, from which the removals left lead to the last heap of the run (document 01,
 -- "The tallies").
 pub record Steps {layout : Layout} {sizes : List ℕ} (X : Setting layout sizes) (M : Map) (source : ℕ) (before : List ℕ) (h : Heap) (l : Lists) (s : State) : Type 0 where
-  pub valid : Valid M (X .ceiling) source
+  pub sound : Sound M source
   pub network-is : X .network ≡ network M source
   pub stands : Stands layout (X .shape) before h l s
   pub resting : Resting (X .network) (X .shape) (X .ceiling) (X .segment-looks) (s .front) h

@@ -5,14 +5,14 @@ use mathlib.Core.Path.{_≡_, refl, sym, _∙_}
 use mathlib.Core.Logic.{_≢_}
 use mathlib.Core.List.{List}
 use lib.ListN.{length}
-use Rattle.theory.specs.Maps.{Map, Reached, Valid, arcs}
+use Rattle.theory.specs.Maps.{Map, Reached, Joined, Valid, arcs}
 use Rattle.theory.specs.Network.{Network, network, Path}
 use Rattle.theory.specs.Search.{search}
 use Rattle.theory.specs.Examined.{examined, FirstOf}
 use Rattle.theory.specs.Shape.{Shape, oneLevelBuckets, twoLevelBuckets, oneLevel, twoLevel}
 use Rattle.theory.specs.Heap.{nothing, pick, heap}
 use Rattle.theory.specs.Runs.{Inputs, ValidInputs, Levels, one, two, Segmented, Allowed, heapBuckets, removalLooks, shapeOf, stepsOf}
-use Rattle.theory.specs.Demands.{CheapestPaths, CheapestRoutes, Roster, operations, Demanded}
+use Rattle.theory.specs.Demands.{CheapestPaths, CheapestRoutes, CheapestCosts, Roster, operations, Demanded}
 use Rattle.theory.proofs.Search.Cheapest.{search-cheapest}
 use Rattle.theory.proofs.Search.Counts.{search-counted}
 use Rattle.theory.proofs.Search.First.{search-first}
@@ -42,7 +42,7 @@ module _ {M : Map} {C source : ℕ} (valid : Valid M C source) where
     distances-length = c .distances-length;
     parents-length = c .parents-length;
     spelled = λ v h n. spelled-path-route (c .spelled v h n);
-    spelled-once = spelled-once valid;
+    spelled-once = spelled-once (valid .sound);
     spelled-route = λ v route r. spelled-route r;
     least = λ v route r. omega (arith, c .least v _ (route-path source 0 r Path.here));
     unreached = λ v h. (
@@ -98,6 +98,18 @@ module _ {M : Map} {C source : ℕ} (valid : Valid M C source) where
   -- In either run the parent of a reached node other than the source is the first arc examined that gives its distance.
   pub run-first : (v : ℕ) → Reached M source v → v ≢ source → FirstOf (search N) (examined N (search N .roster)) v
   run-first v r n = let p = reached-path v r in search-first (map-admissible valid) v (p .0) (p .1) (unfold network in n)
+
+-- Cheapest routes have cheapest costs.
+pub routes-costs : {M : Map} {source : ℕ} {distances parents : List ℕ} → CheapestRoutes M source distances parents
+    → CheapestCosts (λ v c. Joined M source v c) (M .nodes) distances
+routes-costs c = record {
+  found = λ v h q. let s = c .spelled v h q in (s .0, c .spelled-route v (s .0) (s .1), s .2);
+  least = λ v d j. omega (arith, c .least v (j .0) (j .1), j .2);
+  unreached = λ v h. (
+    λ e d j. c .unreached v h .0 e (j .0, j .1),
+    λ no-route. c .unreached v h .1 (λ r. no-route _ (r .0, r .1, refl)),
+  );
+}
 
 -- ---- of every kind of heap
 

@@ -22,6 +22,13 @@ pub record CheapestRoutes (M : Map) (source : ℕ) (distances parents : List ℕ
   pub source-parent : parentOf parents source ≡ none
   pub unreached-parent : (v : ℕ) → v < M .nodes → distanceOf distances v ≡ none → parentOf parents v ≡ none
 
+-- What demand 2 says of the distances alone. `Joins v c`: a route of cost c joins node v and the run's own node, from the source or to it
+-- (document 01, "Routes").
+pub record CheapestCosts (Joins : (v c : ℕ) → Type 0) (n : ℕ) (distances : List ℕ) : Type 0 where
+  pub found : (v : ℕ) → v < n → (distanceOf distances v ≡ none → ⊥) → Joins v (distanceOf distances v)
+  pub least : (v c : ℕ) → Joins v c → distanceOf distances v ≤ c
+  pub unreached : (v : ℕ) → v < n → (distanceOf distances v ≡ none) ↔ ((c : ℕ) → Joins v c → ⊥)
+
 -- Demand 2 of a network, whose paths stand for the routes of the map that it is made of (document 000, section 1).
 pub record CheapestPaths (N : Network) (distances parents : List ℕ) : Type 0 where
   pub distances-length : length distances ≡ N .nodes

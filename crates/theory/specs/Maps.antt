@@ -1,7 +1,9 @@
 -- Maps, and routes over them with their costs (document 01, "What the planner holds and leaves out" and "Routes").
-use Prim.Native.Nat.{ℕ, suc, _+_, _≤_, _<_}
+use Prim.Native.Nat.{ℕ, zero, suc, _+_, _≤_, _<_}
+use mathlib.Core.Bool.{cond}
 use mathlib.Core.Path.{_≡_}
 use mathlib.Core.List.{List, [], _∷_, _++_}
+use lib.Dec.{ltb}
 use lib.ListN.{length, getD}
 
 -- The mark for "none", document 01's own term: the distance of an unreached node, and the parent of the source and of
@@ -39,8 +41,22 @@ costOf M a = getD (M .costs) a 0
 
 -- Arc a leaves node v: it is one of the numbers starts[v] up to but not including starts[v + 1] (document 01, "What the
 -- planner holds and leaves out").
+abbrev pub LeavesBy : (starts : List ℕ) → (a v : ℕ) → Type 0
+LeavesBy starts a v = (getD starts v 0 ≤ a) × (a < getD starts (suc v) 0)
+
+-- Arc a of a map leaves node v (document 01, "What the planner holds and leaves out").
 abbrev pub Leaves : Map → (a v : ℕ) → Type 0
-Leaves M a v = (startOf M v ≤ a) × (a < startOf M (suc v))
+Leaves M a v = LeavesBy (M .starts) a v
+
+-- The tail of arc a among `left` nodes from v on: the first whose arcs do not all end before a (document 01, "Routes": the tail of an
+-- arc comes from starts).
+unfoldable pub tailFrom : (starts : List ℕ) → (a v left : ℕ) → ℕ
+tailFrom starts a v zero = v
+tailFrom starts a v (suc left) = cond (ltb a (getD starts (suc v) 0)) v (tailFrom starts a (suc v) left)
+
+-- The tail of arc a: the one node v with starts[v] ≤ a < starts[v + 1] (document 01, "Routes").
+abbrev pub tailOf : (n : ℕ) → (starts : List ℕ) → (a : ℕ) → ℕ
+tailOf n starts a = tailFrom starts a 0 n
 
 -- A list of arcs, in the order of travel, is a route from the first node to the second: each arc leaves the node at which the
 -- one before it arrives (document 01, "Routes").
@@ -52,6 +68,10 @@ pub data Route (M : Map) : ℕ → List ℕ → ℕ → Type 0 where
 unfoldable pub routeCost : Map → List ℕ → ℕ
 routeCost M [] = 0
 routeCost M (a ∷ route) = costOf M a + routeCost M route
+
+-- A route of cost c joins node v to node w (document 01, "Routes").
+abbrev pub Joined : (M : Map) → (v w c : ℕ) → Type 0
+Joined M v w c = (route : List ℕ) × Route M v route w × (routeCost M route ≡ c)
 
 -- A node is reached exactly if it is the source or a path leads to it from the source (document 01, "The tallies"); to the
 -- source leads the route of no arc.
@@ -73,11 +93,11 @@ pub data SpelledRoute (M : Map) (source : ℕ) (parents : List ℕ) : ℕ → Li
   on : {t : ℕ} {route : List ℕ} → SpelledRoute M source parents t route → (a : ℕ) → Leaves M a t → parentOf parents (headOf M a) ≡ a
       → (source ≡ headOf M a → ⊥) → SpelledRoute M source parents (headOf M a) (route ++ (a ∷ []))
 
--- A map, a ceiling C and a source that a run does not refuse by numbers 1 to 8 (document 01, "What a call returns").
-pub record Valid (M : Map) (C source : ℕ) : Type 0 where
+-- A map whose lists are in order, and a source in it: what numbers 1 and 3 to 7 leave, and nothing of what an arc costs (document 01, "What
+-- a call returns").
+pub record Sound (M : Map) (source : ℕ) : Type 0 where
   pub some-node : 1 ≤ M .nodes
   pub few-nodes : M .nodes ≤ 4096
-  pub low-ceiling : C ≤ 1048575
   pub source-node : source < M .nodes
   pub few-arcs : arcs M ≤ 65536
   pub costs-length : length (M .costs) ≡ arcs M
@@ -86,4 +106,10 @@ pub record Valid (M : Map) (C source : ℕ) : Type 0 where
   pub starts-rise : (v : ℕ) → v < M .nodes → startOf M v ≤ startOf M (suc v)
   pub starts-last : startOf M (M .nodes) ≡ arcs M
   pub heads-nodes : (a : ℕ) → a < arcs M → headOf M a < M .nodes
+
+-- A map, a ceiling C and a source that a run does not refuse by numbers 1 to 8: the lists are in order, and so are the costs (document 01,
+-- "What a call returns").
+pub record Valid (M : Map) (C source : ℕ) : Type 0 where
+  pub sound : Sound M source
+  pub low-ceiling : C ≤ 1048575
   pub costs-most : (a : ℕ) → a < arcs M → costOf M a ≤ C

@@ -2,21 +2,20 @@
 -- arcs are enough, since a route that is spelled passes through no node twice. Assumes nothing.
 use Prim.Native.Nat.{ℕ, zero, suc, _+_, _-_, _≤_, _<_}
 use native.Mathlib.Omega.{arith}
-use native.Mathlib.Numerals.{add-one}
 use mathlib.Core.Path.{_≡_, refl, sym, _∙_, ap, subst}
 use mathlib.Core.Bool.{Bool, true, false}
 use mathlib.Core.Logic.{_≢_, inl, inr, ⊎-elim}
 use mathlib.Core.List.{List, [], _∷_, _++_, List·Memᴰ, List·Memᴰ·not-nil, List·Memᴰ·eq-of-singleton}
-use lib.ListN.{length, getD, length-append}
+use lib.ListN.{length, length-append}
 use borrow.Author.Tests.{lt-ltb, eq-eqb}
-use Rattle.theory.specs.Maps.{Map, arcs, headOf, Leaves, SpelledRoute, parentOf, Valid}
+use Rattle.theory.specs.Maps.{Map, arcs, headOf, tailOf, SpelledRoute, parentOf, Sound}
 use Rattle.theory.specs.Demands.{Distinct}
 use Rattle.theory.proofs.Cases.{same?, differ}
 use Rattle.theory.proofs.Lists.{mem-snoc, distinct-snoc}
-use Rattle.theory.proofs.Maps.Arcs.{leaves-arc, leaves-once}
+use Rattle.theory.proofs.Maps.Arcs.{leaves-arc}
+use Rattle.theory.proofs.Maps.Tails.{tail-leaves, tail-is}
 use Rattle.theory.proofs.Maps.Routes.{spelled-once}
-use Rattle.walk.specs.Walk.{tailOf, leadsTo, Walk, NoWalk, Nodes, extended, walkBack, nodesAlong}
-use Rattle.walk.proofs.Tails.{tail-leaves}
+use Rattle.walk.specs.Walk.{leadsTo, Walk, NoWalk, Nodes, extended, walkBack, nodesAlong}
 use Rattle.walk.proofs.Walking.{back-source, back-stops, back-misfit, back-on, leads-arc, leads-head}
 use Rattle.walk.proofs.Distinct.{distinct-few}
 
@@ -30,14 +29,9 @@ unfolding nodesAlong
 along-length M v [] = refl
 along-length M v (a ∷ route) = ap suc (along-length M (headOf M a) route)
 
-module _ {M : Map} {C source : ℕ} (valid : Valid M C source) (parents : List ℕ) where
+module _ {M : Map} {source : ℕ} (sound : Sound M source) (parents : List ℕ) where
   abbrev back : (allowed v : ℕ) → Walk
   back = walkBack (M .nodes) (M .starts) (M .heads) parents source
-
-  tail-valid : (a : ℕ) → a < arcs M → Leaves M a (tailOf (M .nodes) (M .starts) a)
-  tail-valid a l =
-      let h = tail-leaves (M .nodes) (M .starts) a (omega (arith, valid .starts-first)) (omega (arith, valid .starts-last)) in
-      (h .0, subst (λ (k : ℕ). a < getD (M .starts) k 0) (add-one (tailOf (M .nodes) (M .starts) a)) (h .1))
 
   -- ---- what is spelled is found
 
@@ -50,10 +44,8 @@ module _ {M : Map} {C source : ℕ} (valid : Valid M C source) (parents : List �
   spelled-walk SpelledRoute.here allowed l = back-source (M .nodes) source (M .starts) (M .heads) parents allowed source refl
   spelled-walk (SpelledRoute.on {t} {route} r a h p q) zero l = absurd (omega (arith, length-append route (a ∷ [])))
   spelled-walk (SpelledRoute.on {t} {route} r a h p q) (suc allowed) l =
-      let below = leaves-arc valid a t h in
-      let tail = leaves-once valid a (tailOf (M .nodes) (M .starts) a) t (tail-valid a below) h in
-      back-on (M .nodes) source (M .starts) (M .heads) parents allowed (headOf M a) (λ e. q (sym e)) (rw p (spelled-leads a below))
-      ∙ rw (p, tail, spelled-walk r allowed (omega (arith, length-append route (a ∷ []))), along-snoc M source route a) refl
+      back-on (M .nodes) source (M .starts) (M .heads) parents allowed (headOf M a) (λ e. q (sym e)) (rw p (spelled-leads a (leaves-arc sound a t h)))
+      ∙ rw (p, tail-is sound a t h, spelled-walk r allowed (omega (arith, length-append route (a ∷ []))), along-snoc M source route a) refl
 
   -- ---- what is found is spelled
 
@@ -72,7 +64,7 @@ module _ {M : Map} {C source : ℕ} (valid : Valid M C source) (parents : List �
   behind-on v allowed q fits nodes B =
       let a = parentOf parents v in
       let head : headOf M a ≡ v = leads-head (M .heads) a v fits in
-      let step = SpelledRoute.on (B .spelled) a (tail-valid a (leads-arc (M .heads) a v fits)) (ap (parentOf parents) head) (λ e. q (sym (e ∙ head))) in
+      let step = SpelledRoute.on (B .spelled) a (tail-leaves sound a (leads-arc (M .heads) a v fits)) (ap (parentOf parents) head) (λ e. q (sym (e ∙ head))) in
       record {
         route = B .route ++ (a ∷ []);
         spelled = subst (λ (w : ℕ). SpelledRoute M source parents w (B .route ++ (a ∷ []))) head step;
@@ -117,8 +109,8 @@ module _ {M : Map} {C source : ℕ} (valid : Valid M C source) (parents : List �
   -- ---- a spelled route passes through no node twice
 
   pub spelled-node : {v : ℕ} {route : List ℕ} → SpelledRoute M source parents v route → v < M .nodes
-  spelled-node SpelledRoute.here = valid .source-node
-  spelled-node (SpelledRoute.on {t} r a h p q) = valid .heads-nodes a (leaves-arc valid a t h)
+  spelled-node SpelledRoute.here = sound .source-node
+  spelled-node (SpelledRoute.on {t} r a h p q) = sound .heads-nodes a (leaves-arc sound a t h)
 
   -- Each node of a spelled route is spelled by a part of it.
   spelled-part : {v : ℕ} {route : List ℕ} → SpelledRoute M source parents v route → (w : ℕ) → List·Memᴰ w (nodesAlong M source route)
@@ -140,7 +132,7 @@ module _ {M : Map} {C source : ℕ} (valid : Valid M C source) (parents : List �
       (distinct-snoc (nodesAlong M source route) (headOf M a) (spelled-distinct r)
       (λ m.
       let part = spelled-part r (headOf M a) m in
-      let same = spelled-once valid (headOf M a) (part .0) (route ++ (a ∷ [])) (part .1) (SpelledRoute.on r a h p q) in
+      let same = spelled-once sound (headOf M a) (part .0) (route ++ (a ∷ [])) (part .1) (SpelledRoute.on r a h p q) in
       absurd (omega (arith, part .2, ap length same, length-append route (a ∷ [])))))
 
   pub spelled-short : {v : ℕ} {route : List ℕ} → SpelledRoute M source parents v route → length route < M .nodes

@@ -3,21 +3,21 @@ use Prim.Native.Nat.{ℕ, zero, suc, _+_, _-_, _≤_, _<_}
 use native.Mathlib.Omega.{arith}
 use native.Mathlib.Numerals.{add-one}
 use mathlib.Core.Bool.{Bool, true, false, cond, _&&_}
-use mathlib.Core.Path.{_≡_, refl, sym, _∙_, ap, subst}
+use mathlib.Core.Path.{_≡_, refl, sym, _∙_, ap}
 use mathlib.Core.Logic.{_≢_}
 use mathlib.Core.List.{List, [], _∷_, _++_}
 use lib.Dec.{ltb, eqb}
-use lib.ListN.{length, getD, set, drop, replicate, length-append}
+use lib.ListN.{length, getD, set, drop, length-append}
 use lib.Seq.{drop-cons, set-append-seam, append-snoc}
 use borrow.Author.Tests.{lt-ltb, le-ltb, ltb-true, ltb-false, eqb-true, eq-eqb, ne-eqb}
-use Rattle.theory.specs.Maps.{none, Map, mapOf, parentOf, Leaves}
+use Rattle.theory.specs.Maps.{none, parentOf, LeavesBy, tailOf}
 use Rattle.theory.proofs.Cases.{differ}
 use Rattle.theory.proofs.Lists.{getD-inside}
-use Rattle.theory.proofs.Maps.Arcs.{leaves-node, leaves-once}
+use Rattle.theory.proofs.Maps.Arcs.{leaves-node}
+use Rattle.theory.proofs.Maps.Tails.{tail-is}
 use Rattle.walk.specs.declared.Walked.{Walked}
 use Rattle.walk.specs.declared.Walked.the-variants.{Lost, NoRoom, Arrived}
-use Rattle.walk.specs.Walk.{tailOf, leadsTo, Walk, NoWalk, Nodes, extended, walkBack, Tailed, LeavesBy, Table, Walks, walkedOf, walkedWords, HasRoom, oneMore, writtenBehind}
-use Rattle.walk.proofs.Tails.{tail-leaves}
+use Rattle.walk.specs.Walk.{leadsTo, Walk, NoWalk, Nodes, extended, walkBack, Tailed, Walks, walkedOf, walkedWords, HasRoom, oneMore, writtenBehind}
 
 -- ---- the walk back, case by case
 
@@ -60,31 +60,6 @@ leads-head heads a v e = go (ltb a (length heads)) (eqb (getD heads a 0) v) refl
     go true false l h = differ (cc)
     go false u l h = differ (cc)
 
--- ---- the tail of an arc of a table
-
-module _ {n source : ℕ} {starts heads parents : List ℕ} (T : Table n source starts heads parents) where
-  abbrev M : Map
-  M = mapOf n starts heads (replicate (length heads) 0)
-
-  pub arc-tailed : (a : ℕ) → a < length heads → Tailed n starts a
-  arc-tailed a l = record {
-    count = T .valid .starts-length ∙ sym (add-one n);
-    few = T .valid .few-nodes;
-    first = omega (arith, T .valid .starts-first);
-    last = omega (arith, T .valid .starts-last);
-  }
-
-  pub by-leaves : (a v : ℕ) → LeavesBy starts a v → Leaves M a v
-  by-leaves a v h = (h .0, subst (λ (k : ℕ). a < getD starts k 0) (add-one v) (h .1))
-
-  pub tail-node : (a v : ℕ) → LeavesBy starts a v → v < n
-  tail-node a v h = leaves-node (T .valid) a v (by-leaves a v h)
-
-  pub tail-is : (a v : ℕ) → a < length heads → LeavesBy starts a v → v ≡ tailOf n starts a
-  tail-is a v l h =
-      let t = arc-tailed a l in
-      leaves-once (T .valid) a v (tailOf n starts a) (by-leaves a v h) (by-leaves a (tailOf n starts a) (tail-leaves n starts a (t .first) (t .last)))
-
 -- ---- one step of the walk in code
 
 module _ {n source : ℕ} {starts heads parents : List ℕ} {v allowed behind : ℕ} (W : Walks n source starts heads parents v allowed behind) where
@@ -99,10 +74,17 @@ module _ {n source : ℕ} {starts heads parents : List ℕ} {v allowed behind : 
   misfit e f = rw (sym parent-read) (sym e ∙ f)
 
   pub arc-fits : {t : Bool} → t ≡ leadsTo heads (getD parents v 0) v → t ≡ true → Tailed n starts (getD parents v 0)
-  arc-fits e f = arc-tailed (W .table) (getD parents v 0) (leads-arc heads (getD parents v 0) v (sym e ∙ f))
+  arc-fits e f =
+      let sound = W .table .sound in
+      record {
+        count = sound .starts-length ∙ sym (add-one n);
+        few = sound .few-nodes;
+        first = omega (arith, sound .starts-first);
+        last = omega (arith, sound .starts-last, leads-arc heads (getD parents v 0) v (sym e ∙ f));
+      }
 
   pub walks-on : {a tail : ℕ} → LeavesBy starts a tail → 0 < allowed → Walks n source starts heads parents tail (allowed - 1) (behind + 1)
-  walks-on h l = record { table = W .table; node = tail-node (W .table) _ _ h; short = omega (arith, W .short) }
+  walks-on h l = record { table = W .table; node = leaves-node (W .table .sound) _ _ h; short = omega (arith, W .short) }
 
 -- ---- what the walk in code leaves
 
@@ -175,10 +157,10 @@ module _ {n source : ℕ} {starts heads parents : List ℕ} {v allowed behind : 
       → wholeWalk ≡ extended (walkBack n starts heads parents source (allowed - 1) tail) v
   goes-on tail q fits h l =
       let a : allowed ≡ suc (allowed - 1) = omega arith in
-      let t = tail-is (W .table) (getD parents v 0) tail (leads-arc heads (getD parents v 0) v fits) h in
+      let t = tail-is (W .table .sound) (getD parents v 0) tail h in
       ap (λ (k : ℕ). walkBack n starts heads parents source k v) a
       ∙ back-on n source starts heads parents (allowed - 1) v q (rw (sym (parent-read W)) fits)
-      ∙ ap (λ (k : ℕ). extended (walkBack n starts heads parents source (allowed - 1) k) v) (ap (tailOf n starts) (sym (parent-read W)) ∙ sym t)
+      ∙ ap (λ (k : ℕ). extended (walkBack n starts heads parents source (allowed - 1) k) v) (ap (tailOf n starts) (sym (parent-read W)) ∙ t)
 
   pub walked-on : (tail : ℕ) → v ≢ source → leadsTo heads (getD parents v 0) v ≡ true → LeavesBy starts (getD parents v 0) tail → 0 < allowed
       → (words : List ℕ) {r r′ : Walked} {l l′ : List ℕ}

@@ -7,21 +7,11 @@ use lib.Dec.{ltb, eqb}
 use lib.ListN.{length, getD, set, replicate}
 use Rattle.model.specs.declared.Check.the-variants.{Passed}
 use Rattle.model.specs.Answers.{wordsAfter}
-use Rattle.theory.specs.Maps.{Map, mapOf, headOf, parentOf, Valid}
+use Rattle.theory.specs.Maps.{Map, mapOf, headOf, parentOf, tailOf, Sound}
 use Rattle.walk.specs.declared.Walked.{Walked}
 use Rattle.walk.specs.declared.Walked.the-variants.{Lost, NoRoom, Arrived}
 
 -- ---- the walk back
-
--- The tail of arc a among `left` nodes from v on: the first whose arcs do not all end before a (document 01, "Routes": the tail of an
--- arc comes from starts).
-unfoldable pub tailFrom : (starts : List ℕ) → (a v left : ℕ) → ℕ
-tailFrom starts a v zero = v
-tailFrom starts a v (suc left) = cond (ltb a (getD starts (suc v) 0)) v (tailFrom starts a (suc v) left)
-
--- The tail of arc a: the one node v with starts[v] ≤ a < starts[v + 1] (document 01, "Routes").
-abbrev pub tailOf : (n : ℕ) → (starts : List ℕ) → (a : ℕ) → ℕ
-tailOf n starts a = tailFrom starts a 0 n
 
 -- Arc a is below m, and its head is node v (document 01, "What a call returns", number 16).
 abbrev pub leadsTo : (heads : List ℕ) → (a v : ℕ) → Bool
@@ -67,14 +57,10 @@ pub record Tailed (n : ℕ) (starts : List ℕ) (a : ℕ) : Type 0 where
   pub first : getD starts 0 0 ≤ a
   pub last : a < getD starts n 0
 
--- Arc a leaves node v: starts[v] ≤ a < starts[v + 1] (document 01, "What the planner holds and leaves out").
-abbrev pub LeavesBy : (starts : List ℕ) → (a v : ℕ) → Type 0
-LeavesBy starts a v = (getD starts v 0 ≤ a) × (a < getD starts (v + 1) 0)
-
 -- A map without costs, of which the lists are in order, and a parent word for each node: what the checks up to 10 show (document 01,
 -- "What a call returns").
 pub record Table (n source : ℕ) (starts heads parents : List ℕ) : Type 0 where
-  pub valid : Valid (mapOf n starts heads (replicate (length heads) 0)) 0 source
+  pub sound : Sound (mapOf n starts heads (replicate (length heads) 0)) source
   pub long : n ≤ length parents
 
 -- A walk back from node v over such a table, with `behind` nodes to follow it and so many arcs still allowed (document 01, "Routes").

@@ -4,8 +4,9 @@ use model::Node;
 ghost use mathlib.Core.Path.{_≡_};
 ghost use mathlib.Core.List.{[], _∷_};
 ghost use lib.ListN.{length};
+ghost use Rattle.theory.specs.Maps.{LeavesBy};
 ghost use Rattle.walk.specs.Walk.{leadsTo, Nodes, walkBack};
-ghost use Rattle.walk.specs.Walk.{Tailed, LeavesBy, Walks, walkedOf, walkedWords, HasRoom, oneMore, writtenBehind};
+ghost use Rattle.walk.specs.Walk.{Tailed, Walks, walkedOf, walkedWords, HasRoom, oneMore, writtenBehind};
 
 // How a walk back to the source ends: so many nodes are written, or none.
 pub enum Walked {

@@ -55,7 +55,7 @@ returns-2 c =
     destination-refused _ _ _ _ _ _ _ (table-passes (table-passed made)) (sym (made .destination-check .ensures) ∙ fault .check .given .1) refl
 
 sub-walk : tie.Need-sub-walk
-sub-walk c = let t : tie.After-enum-told = search needs in omega (arith, table t .valid .some-node)
+sub-walk c = let t : tie.After-enum-told = search needs in omega (arith, table t .sound .some-node)
 
 walk-requires : tie.Need-walk-requires
 walk-requires c κs =
@@ -65,7 +65,7 @@ walk-requires c κs =
     record {
       table = t;
       node = destination-node _ _ (given (table-passed made) .args .parents .now) _ (sym (made .destination-check .ensures) ∙ p .enum-told2 .given .1);
-      short = omega (arith, t .valid .some-node);
+      short = omega (arith, t .sound .some-node);
     }
 
 returns-3 : tie.Need-returns-3

@@ -6,7 +6,7 @@ use mathlib.Core.List.{List, List·Memᴰ, List·Memᴰ·head, List·Memᴰ·not
 use native.Mathlib.Omega.{arith}
 use lib.ListN.{length, length-append, List·getD-eq-default}
 use Rattle.theory.specs.Sums.{sumBelow}
-use Rattle.theory.specs.Maps.{Map, arcs, startOf, headOf, costOf, Leaves, Valid}
+use Rattle.theory.specs.Maps.{Map, arcs, startOf, headOf, costOf, Leaves, Sound, Valid}
 use Rattle.theory.specs.Network.{Link, linksFrom, arcLinks, network, Admissible}
 use Rattle.theory.proofs.Cases.{split}
 
@@ -50,11 +50,11 @@ module _ (M : Map) (source v : ℕ) where
   unfolding network
   leaves-out a h = linksFrom-in (arcLinks M) (startOf M v) (startOf M (suc v) - startOf M v) a (linkOf M a) (h .0) (omega (arith, h .1)) (List·Memᴰ·head refl)
 
-module _ {M : Map} {C source : ℕ} (valid : Valid M C source) where
+module _ {M : Map} {source : ℕ} (sound : Sound M source) where
   pub starts-mono : (v w : ℕ) → v ≤ w → w ≤ M .nodes → startOf M v ≤ startOf M w
   starts-mono v zero l h = let e : v ≡ 0 = omega arith in rw e (omega arith)
   starts-mono v (suc w) l h = elim (split v (suc w)) [
-    | inl k ↦ omega (arith, starts-mono v w (omega arith) (omega arith), valid .starts-rise w (omega arith))
+    | inl k ↦ omega (arith, starts-mono v w (omega arith) (omega arith), sound .starts-rise w (omega arith))
     | inr k ↦ let e : v ≡ suc w = omega arith in rw e (omega arith)
   ]
 
@@ -62,11 +62,11 @@ module _ {M : Map} {C source : ℕ} (valid : Valid M C source) where
   pub leaves-node : (a v : ℕ) → Leaves M a v → v < M .nodes
   leaves-node a v h = elim (split v (M .nodes)) [
     | inl l ↦ l
-    | inr l ↦ let e : startOf M (suc v) ≡ 0 = List·getD-eq-default (M .starts) 0 (omega (arith, valid .starts-length)) in absurd (omega (arith, h .1))
+    | inr l ↦ let e : startOf M (suc v) ≡ 0 = List·getD-eq-default (M .starts) 0 (omega (arith, sound .starts-length)) in absurd (omega (arith, h .1))
   ]
 
   pub leaves-arc : (a v : ℕ) → Leaves M a v → a < arcs M
-  leaves-arc a v h = omega (arith, h .1, starts-mono (suc v) (M .nodes) (leaves-node a v h) (omega arith), valid .starts-last)
+  leaves-arc a v h = omega (arith, h .1, starts-mono (suc v) (M .nodes) (leaves-node a v h) (omega arith), sound .starts-last)
 
   pub leaves-once : (a v w : ℕ) → Leaves M a v → Leaves M a w → v ≡ w
   leaves-once a v w h g = elim (split v w) [
@@ -84,7 +84,7 @@ module _ {M : Map} {C source : ℕ} (valid : Valid M C source) where
       omega (
         arith,
         links-sum v (omega arith),
-        valid .starts-rise v h,
+        sound .starts-rise v h,
         linksFrom-length (arcLinks M) (λ i. omega arith) (startOf M v) (startOf M (suc v) - startOf M v),
       )
 
@@ -92,18 +92,19 @@ module _ {M : Map} {C source : ℕ} (valid : Valid M C source) where
   all-links : (P : Link → Type 0) → ((a : ℕ) → a < arcs M → P (linkOf M a)) → (v : ℕ) → v < M .nodes → (l : Link) → List·Memᴰ l (network M source .out v) → P l
   all-links P all v _ l m = let r = out-leaves M source v l m in rw (r .1) (all (l .arc) (leaves-arc (l .arc) v (r .0)))
 
+module _ {M : Map} {C source : ℕ} (valid : Valid M C source) where
   pub map-admissible : Admissible (network M source) C (arcs M)
   map-admissible = record {
-    few-nodes = unfold network in (valid .few-nodes);
+    few-nodes = unfold network in (valid .sound .few-nodes);
     low-ceiling = valid .low-ceiling;
-    few-arcs = valid .few-arcs;
-    source-node = unfold network in (valid .source-node);
-    heads = unfold network in all-links (λ l. l .head < M .nodes) (valid .heads-nodes);
-    costs = unfold network in all-links (λ l. l .cost ≤ C) (valid .costs-most);
-    links = unfold network in omega (arith, links-sum (M .nodes) (omega arith), valid .starts-last);
-    numbers = unfold network in all-links (λ l. l .arc < arcs M) (λ a h. h);
+    few-arcs = valid .sound .few-arcs;
+    source-node = unfold network in (valid .sound .source-node);
+    heads = unfold network in all-links (valid .sound) (λ l. l .head < M .nodes) (valid .sound .heads-nodes);
+    costs = unfold network in all-links (valid .sound) (λ l. l .cost ≤ C) (valid .costs-most);
+    links = unfold network in omega (arith, links-sum (valid .sound) (M .nodes) (omega arith), valid .sound .starts-last);
+    numbers = unfold network in all-links (valid .sound) (λ l. l .arc < arcs M) (λ a h. h);
     one-arc = λ v w l k p q e.
         let a = out-leaves M source v l p in
         let b = out-leaves M source w k q in
-        (leaves-once (l .arc) v w (a .0) (rw e (b .0)), a .1 ∙ ap (linkOf M) e ∙ sym (b .1));
+        (leaves-once (valid .sound) (l .arc) v w (a .0) (rw e (b .0)), a .1 ∙ ap (linkOf M) e ∙ sym (b .1));
   }

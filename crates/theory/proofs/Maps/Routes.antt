@@ -6,7 +6,7 @@ use mathlib.Core.List.{List, [], _∷_, _++_}
 use native.Mathlib.Omega.{arith}
 use native.Mathlib.Nat.{add-zero}
 use lib.ListN.{length, List·getD-append}
-use Rattle.theory.specs.Maps.{none, Map, headOf, costOf, Leaves, Route, routeCost, SpelledRoute, parentOf, Valid}
+use Rattle.theory.specs.Maps.{none, Map, headOf, costOf, Leaves, Route, routeCost, Joined, SpelledRoute, parentOf, Sound}
 use Rattle.theory.specs.Network.{Link, network, Path, SpelledPath}
 use Rattle.theory.proofs.Lists.{inside}
 use Rattle.theory.proofs.Maps.Arcs.{linkOf, out-leaves, leaves-out, leaves-arc, leaves-once}
@@ -21,11 +21,7 @@ unfolding routeCost
 cost-snoc M [] a = omega arith
 cost-snoc M (b ∷ route) a = omega (arith, cost-snoc M route a)
 
--- A route to v of cost c.
-abbrev pub RouteOf : (M : Map) → (source v c : ℕ) → Type 0
-RouteOf M source v c = (route : List ℕ) × Route M source route v × (routeCost M route ≡ c)
-
-pub path-route : {M : Map} {source v c : ℕ} → Path (network M source) v c → RouteOf M source v c
+pub path-route : {M : Map} {source v c : ℕ} → Path (network M source) v c → Joined M source v c
 unfolding network routeCost
 path-route Path.here = ([], Route.here, refl)
 path-route {M} {source} (Path.on {v} p l m) =
@@ -47,17 +43,17 @@ spelled-route SpelledRoute.here = Route.here
 spelled-route (SpelledRoute.on r a h e n) = route-snoc a (spelled-route r) h
 
 -- A route from a node of the map ends at a node of the map.
-pub route-node : {M : Map} {C source : ℕ} → Valid M C source → {v w : ℕ} {route : List ℕ} → Route M v route w → v < M .nodes → w < M .nodes
-route-node valid Route.here l = l
-route-node valid (Route.along {v} a h r) l = route-node valid r (valid .heads-nodes a (leaves-arc valid a v h))
+pub route-node : {M : Map} {source : ℕ} → Sound M source → {v w : ℕ} {route : List ℕ} → Route M v route w → v < M .nodes → w < M .nodes
+route-node sound Route.here l = l
+route-node sound (Route.along {v} a h r) l = route-node sound r (sound .heads-nodes a (leaves-arc sound a v h))
 
 -- What the parents of the nodes spell does not depend on the words past them.
-pub spelled-past : {M : Map} {C source : ℕ} → Valid M C source → (parents past : List ℕ) → length parents ≡ M .nodes
+pub spelled-past : {M : Map} {source : ℕ} → Sound M source → (parents past : List ℕ) → length parents ≡ M .nodes
     → {v : ℕ} {route : List ℕ} → SpelledRoute M source parents v route → SpelledRoute M source (parents ++ past) v route
-spelled-past valid parents past e SpelledRoute.here = SpelledRoute.here
-spelled-past {M} valid parents past e (SpelledRoute.on {t} r a h p q) =
-    SpelledRoute.on (spelled-past valid parents past e r) a h
-    (List·getD-append parents past none (headOf M a) (omega (arith, valid .heads-nodes a (leaves-arc valid a t h))) ∙ p) q
+spelled-past sound parents past e SpelledRoute.here = SpelledRoute.here
+spelled-past {M} sound parents past e (SpelledRoute.on {t} r a h p q) =
+    SpelledRoute.on (spelled-past sound parents past e r) a h
+    (List·getD-append parents past none (headOf M a) (omega (arith, sound .heads-nodes a (leaves-arc sound a t h))) ∙ p) q
 
 pub spelled-path-route : {M : Map} {source v c : ℕ} {parents : List ℕ} → SpelledPath (network M source) parents v c
     → (route : List ℕ) × SpelledRoute M source parents v route × (routeCost M route ≡ c)
@@ -73,14 +69,14 @@ spelled-path-route {M} {source} {parents = parents} (SpelledPath.on {t} p l m e 
       cost-snoc M (r .0) (l .arc) ∙ ap (λ (k : ℕ). k + costOf M (l .arc)) (r .2),
     )
 
-module _ {M : Map} {C source : ℕ} (valid : Valid M C source) {parents : List ℕ} where
+module _ {M : Map} {source : ℕ} (sound : Sound M source) {parents : List ℕ} where
   same-spelled : {v w : ℕ} {route route′ : List ℕ} → SpelledRoute M source parents v route → SpelledRoute M source parents w route′ → v ≡ w → route ≡ route′
   same-spelled SpelledRoute.here SpelledRoute.here e = refl
   same-spelled SpelledRoute.here (SpelledRoute.on r a h p n) e = absurd (n e)
   same-spelled (SpelledRoute.on r a h p n) SpelledRoute.here e = absurd (n (sym e))
   same-spelled (SpelledRoute.on {t = t} {route = x} r a h p n) (SpelledRoute.on {t = u} {route = y} s b g q k) e =
       let z : a ≡ b = sym p ∙ ap (parentOf parents) e ∙ q in
-      let y : x ≡ y = same-spelled r s (leaves-once valid a t u h (rw z g)) in
+      let y : x ≡ y = same-spelled r s (leaves-once sound a t u h (rw z g)) in
       rw (y, z)
 
   pub spelled-once : (v : ℕ) (route route′ : List ℕ) → SpelledRoute M source parents v route → SpelledRoute M source parents v route′ → route ≡ route′
@@ -89,4 +85,4 @@ module _ {M : Map} {C source : ℕ} (valid : Valid M C source) {parents : List �
   -- A node that is spelled and is not the source has a parent word in the table: a missing word spells nothing.
   pub spelled-inside : {v : ℕ} {route : List ℕ} → SpelledRoute M source parents v route → v ≢ source → v < length parents
   spelled-inside SpelledRoute.here n = absurd (n refl)
-  spelled-inside (SpelledRoute.on {t} r a h p n) _ = inside parents (headOf M a) (parentOf [] 0) (λ (e : parentOf parents (headOf M a) ≡ parentOf [] 0). omega (arith, leaves-arc valid a t h, valid .few-arcs))
+  spelled-inside (SpelledRoute.on {t} r a h p n) _ = inside parents (headOf M a) (parentOf [] 0) (λ (e : parentOf parents (headOf M a) ≡ parentOf [] 0). omega (arith, leaves-arc sound a t h, sound .few-arcs))

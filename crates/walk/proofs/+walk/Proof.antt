@@ -120,7 +120,7 @@ module _ (t : ℕ) where
   sub-walk c = let a : Else2 = search needs in omega (arith, a .if2 .left)
 
   add-walk : lts.Need-add-walk (claims t) (walk-at t) walk.Post
-  add-walk c = let a : Else2 = search needs in let w = entry a .pre .1 in omega (arith, w .short, w .table .valid .few-nodes)
+  add-walk c = let a : Else2 = search needs in let w = entry a .pre .1 in omega (arith, w .short, w .table .sound .few-nodes)
 
   walk-requires : lts.Need-walk-requires (claims t) (walk-at t) walk.Post
   walk-requires c κs =
