@@ -1,2 +1,2 @@
 mod Held
-mod LinesRead
+pub mod LinesRead

@@ -1,34 +1,24 @@
-// A planning file and the place in it, kept together, and the two kinds of line that are read there (document 01, "Planning file").
-use lines::read_arc;
-use lines::read_header;
+// A planning file and the place in it, kept together, and the lines that are read there (document 01, "Planning file").
+use lines::read_numbers;
 ghost use mathlib.Core.Path.{_≡_};
 ghost use Prim.Native.Nat.{_≤_};
 ghost use lib.ListN.{length, drop};
-ghost use Rattle.cursor.specs.Lines.{arcLine, headerLine};
+ghost use Rattle.cursor.specs.Lines.{lineNumbers};
 ghost use Rattle.cursor.specs.Unread.{unread};
 
 mod lines;
 
-// An arc's line: its three numbers, and the bytes that it takes.
-pub enum ArcLine {
-    NoArc,
-    ArcRead {
-        tail: u32,
-        head: u32,
-        cost: u32,
-        taken: usize,
-    },
-}
-
-// Line 1: its five numbers, and the bytes that it takes.
-pub enum HeaderLine {
-    NoHeader,
-    HeaderRead {
-        nodes: u32,
-        arcs: u32,
-        ceiling: u32,
-        source: u32,
-        segments: u32,
+// A line's numbers, those past its last field 0, and the bytes that it takes.
+pub enum LineNumbers {
+    NoNumbers,
+    NumbersRead {
+        first: u32,
+        second: u32,
+        third: u32,
+        fourth: u32,
+        fifth: u32,
+        sixth: u32,
+        seventh: u32,
         taken: usize,
     },
 }
@@ -45,18 +35,12 @@ pub fn new<'a>(bytes: &'a [u8], at: usize) -> Cursor<'a>
     Cursor { bytes, at }
 }
 
-pub fn header_line<'a>(cursor: Cursor<'a>) -> HeaderLine
-    requires { ⌜ cursor .at ≤ length (now (cursor .bytes)) ⌝ }
-    ensures { λ r. ⌜ r ≡ headerLine (unread (cursor .entry)) ⌝ }
+// The line of so many fields, at most seven.
+pub fn numbers_of<'a>(cursor: Cursor<'a>, count: usize) -> LineNumbers
+    requires { ⌜ (cursor .at ≤ length (now (cursor .bytes))) × ((1 ≤ count) × (count ≤ 7)) ⌝ }
+    ensures { λ r. ⌜ r ≡ lineNumbers count (unread (cursor .entry)) ⌝ }
 {
-    read_header(cursor.bytes, cursor.at)
-}
-
-pub fn arc_line<'a>(cursor: Cursor<'a>) -> ArcLine
-    requires { ⌜ cursor .at ≤ length (now (cursor .bytes)) ⌝ }
-    ensures { λ r. ⌜ r ≡ arcLine (unread (cursor .entry)) ⌝ }
-{
-    read_arc(cursor.bytes, cursor.at)
+    read_numbers(cursor.bytes, cursor.at, count)
 }
 
 // How many bytes are left over.
@@ -67,19 +51,12 @@ pub fn left_over<'a>(cursor: Cursor<'a>) -> usize
     cursor.bytes.len() - cursor.at
 }
 
-// Between two lines the passes keep the place as a number. They read by the three functions below, which need no cursor of their callers.
-pub fn header_line_at(bytes: &[u8], at: usize) -> HeaderLine
-    requires { ⌜ at ≤ length (now bytes) ⌝ }
-    ensures { λ r. ⌜ r ≡ headerLine (drop at (now (bytes .entry))) ⌝ }
+// Between two lines the passes keep the place as a number. They read by the two functions below, which need no cursor of their callers.
+pub fn numbers_at(bytes: &[u8], at: usize, count: usize) -> LineNumbers
+    requires { ⌜ (at ≤ length (now bytes)) × ((1 ≤ count) × (count ≤ 7)) ⌝ }
+    ensures { λ r. ⌜ r ≡ lineNumbers count (drop at (now (bytes .entry))) ⌝ }
 {
-    header_line(new(bytes, at))
-}
-
-pub fn arc_line_at(bytes: &[u8], at: usize) -> ArcLine
-    requires { ⌜ at ≤ length (now bytes) ⌝ }
-    ensures { λ r. ⌜ r ≡ arcLine (drop at (now (bytes .entry))) ⌝ }
-{
-    arc_line(new(bytes, at))
+    numbers_of(new(bytes, at), count)
 }
 
 pub fn left_over_at(bytes: &[u8], at: usize) -> usize

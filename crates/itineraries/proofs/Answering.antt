@@ -12,13 +12,12 @@ use Rattle.fields.specs.Writing.{Writes}
 use Rattle.fields.proofs.Written.{writes-inside}
 use Rattle.reader.specs.declared.PlanAnswer.{PlanAnswer}
 use Rattle.reader.specs.declared.PlanAnswer.the-variants.{Read, Refused}
-use Rattle.grouping.specs.Arcs.{PlanArc}
-use Rattle.reader.specs.Plans.{Header}
+use Rattle.reader.specs.Plans.{Plan}
 use Rattle.reader.specs.Promise.{PlanPromised}
-use Rattle.reader.proofs.Told.{read-told, inputs-told}
+use Rattle.reader.proofs.Told.{read-told}
 use Rattle.report.specs.Report.{refusedText}
 use Rattle.planning.specs.Planning.{planningCheck, PlanLists, planLists, WordsLent, mapInputs, MapRunnable}
-use Rattle.planning.proofs.Reading.{mapIn, long-check, refused-check, untouched, passed-check, map-read}
+use Rattle.planning.proofs.Reading.{mapIn, long-check, refused-check, untouched, passed-check, inputs-read, map-read}
 use Rattle.itineraries.specs.Itineraries.{routesText, Listed, ItinerariesPromised, RunListed}
 
 refused-listed : (bytes : List ℕ) {l : PlanLists} {number place : ℕ} {route output output′ : List ℕ} {written : ℕ} → planningCheck bytes ≡ Fault number place
@@ -39,24 +38,24 @@ pub too-long : (bytes : List ℕ) (l : PlanLists) {route output output′ : List
     → Writes 0 (refusedText 13 0) output output′ written → ItinerariesPromised bytes l l route route output output′ written
 too-long bytes l long W = refused-listed bytes (long-check bytes long) W
 
-module _ {bytes : List ℕ} (short : length bytes ≤ 65536) {l : PlanLists} (lent : WordsLent l) {starts′ heads′ costs′ : List ℕ} {answer : PlanAnswer}
+module _ (bytes : List ℕ) (short : length bytes ≤ 65536) {l : PlanLists} (lent : WordsLent l) {starts′ heads′ costs′ : List ℕ} {answer : PlanAnswer}
     (P : PlanPromised bytes (l .starts) (l .heads) (l .costs) starts′ heads′ costs′ answer) where
   pub read-refused : {number place : ℕ} {route output output′ : List ℕ} {written : ℕ} → answer ≡ Refused number place → Writes 0 (refusedText number place) output output′ written
       → ItinerariesPromised bytes l (mapIn l starts′ heads′ costs′) route route output output′ written
   read-refused {route = route} {output = output} {output′ = output′} {written = written} a W =
-      subst (λ (l′ : PlanLists). ItinerariesPromised bytes l l′ route route output output′ written) (sym (untouched short lent P a))
-      (refused-listed bytes (refused-check short lent P a) W)
+      subst (λ (l′ : PlanLists). ItinerariesPromised bytes l l′ route route output output′ written) (sym (untouched bytes short lent P a))
+      (refused-listed bytes (refused-check bytes short lent P a) W)
 
   module _ {n m C K : ℕ} {source : Node} (a : answer ≡ Read n m C source K) where
     pub one-read : MapRunnable one n m C (source .0) (mapIn l starts′ heads′ costs′)
-    one-read = map-read short lent P a one tt (omega arith)
+    one-read = map-read bytes short lent P a one tt (omega arith)
 
     pub map-listed : {distances′ parents′ roster′ work′ route route′ output output′ : List ℕ} {written : ℕ} → let l′ = planLists starts′ heads′ costs′ distances′ parents′ roster′ work′ in
         RunListed (mapInputs n m C (source .0) (mapIn l starts′ heads′ costs′)) (mapIn l starts′ heads′ costs′) l′ route route′ output output′ written
         → ItinerariesPromised bytes l l′ route route′ output output′ written
     map-listed B =
-        let E = rw (inputs-told P a) at B in
-        rw (passed-check short lent P a)
+        let E = rw (inputs-read bytes short lent P a) at B in
+        rw (passed-check bytes short lent P a)
         (record {
           text = E .text;
           starts-after = read-told P a .starts-after;
@@ -76,6 +75,6 @@ unfolding routesText
 answer-text bytes A = A .text
 
 -- What is written lies within the output.
-pub answer-within : {check : Check} {header : Header} {arcs : List PlanArc} {l l′ : PlanLists} {route route′ output output′ : List ℕ} {written : ℕ}
-    → Listed check header arcs l l′ route route′ output output′ written → written ≤ length output′
+pub answer-within : {check : Check} {plan : Plan} {l l′ : PlanLists} {route route′ output output′ : List ℕ} {written : ℕ}
+    → Listed check plan l l′ route route′ output output′ written → written ≤ length output′
 answer-within A = writes-inside (A .text)

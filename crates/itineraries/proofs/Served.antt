@@ -18,7 +18,7 @@ use Rattle.theory.proofs.Lists.{getD-inside}
 use Rattle.theory.proofs.Maps.Routes.{route-node}
 use Rattle.route.specs.Routes.{Served}
 use Rattle.reader.specs.Checking.{planCheck}
-use Rattle.reader.specs.Plans.{planInputs}
+use Rattle.reader.specs.Plans.{planOf, planRun}
 use Rattle.reader.proofs.Runnable.{read-runnable}
 use Rattle.planning.specs.Planning.{mostBytes, planningCheck, planText}
 use Rattle.itineraries.specs.Itineraries.{routeLine, lineIfReached, runRoute, routesText, CheapestLine}
@@ -40,7 +40,7 @@ refused-same bytes e = rw e refl
 
 module _ (bytes : List ℕ) (accepted : planningCheck bytes ≡ Passed) where
   abbrev I : Inputs
-  I = planInputs bytes
+  I = planRun (planOf bytes)
 
   abbrev M : Map
   M = I .map

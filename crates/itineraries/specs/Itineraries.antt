@@ -1,6 +1,6 @@
 -- What `routes` prints for every input, and what it leaves in the lists that it lends. The text is ours; its parts are those of document 01,
 -- "Routes" and "Planning file".
-use Prim.Native.Nat.{ℕ, zero, suc, _+_, _≤_, _<_}
+use Prim.Native.Nat.{ℕ, zero, suc, _≤_, _<_}
 use mathlib.Core.Bool.{cond}
 use mathlib.Core.Path.{_≡_}
 use mathlib.Core.List.{List, [], _∷_, _++_}
@@ -17,10 +17,9 @@ use Rattle.walk.specs.Walk.{nodesOf, nodesAlong}
 use Rattle.route.specs.Routes.{routeWalk, routeChecks}
 use Rattle.fields.specs.Fields.{comma, decimal, renderLine}
 use Rattle.fields.specs.Writing.{Writes}
-use Rattle.grouping.specs.Arcs.{PlanArc, startsOf, headsOf, costsOf}
-use Rattle.reader.specs.Plans.{Header, planHeader, planArcs, planRun}
+use Rattle.reader.specs.Plans.{Plan, planOf, planStarts, planHeads, planCosts, planRun}
 use Rattle.report.specs.Report.{refusedText}
-use Rattle.planning.specs.Planning.{planningCheck, PlanLists, WordsLent}
+use Rattle.planning.specs.Planning.{planningCheck, planMap, planOneLevel, PlanLists, WordsLent}
 
 -- ---- the text
 
@@ -50,14 +49,14 @@ runRoute I = nodesTo (I .map .nodes) (I .source) (I .map .starts) (I .map .heads
 abbrev pub runLines : Inputs → List ℕ
 runLines I = routeLines (I .map .nodes) (stepsOf one I .search .distances) (runRoute I)
 
--- The text for a file whose checks come to `check` (document 01, "Routes" and "Planning file").
-abbrev pub checkedRoutes : Check → Header → List PlanArc → List ℕ
-checkedRoutes Passed header arcs = runLines (planRun header arcs)
-checkedRoutes (Fault number place) header arcs = refusedText number place
+-- The text for a file that tells `plan` and whose checks come to `check` (document 01, "Routes" and "Planning file").
+abbrev pub checkedRoutes : Check → Plan → List ℕ
+checkedRoutes Passed plan = runLines (planRun plan)
+checkedRoutes (Fault number place) plan = refusedText number place
 
 -- What `routes` prints (document 01, "Routes" and "Planning file").
 unfoldable pub routesText : (bytes : List ℕ) → List ℕ
-routesText bytes = checkedRoutes (planningCheck bytes) (planHeader bytes) (planArcs bytes)
+routesText bytes = checkedRoutes (planningCheck bytes) (planOf bytes)
 
 -- ---- the lists
 
@@ -76,27 +75,27 @@ abbrev pub runFields : Inputs → (words : List ℕ) → List ℕ
 runFields I words = routeFields (I .map .nodes) (stepsOf one I .search .distances) (runRoute I) words
 
 -- The route list afterwards; a refusal leaves all words (document 01, "What a call returns").
-abbrev pub checkedWords : Check → Header → List PlanArc → (words : List ℕ) → List ℕ
-checkedWords Passed header arcs words = runFields (planRun header arcs) words
-checkedWords (Fault number place) header arcs words = words
+abbrev pub checkedWords : Check → Plan → (words : List ℕ) → List ℕ
+checkedWords Passed plan words = runFields (planRun plan) words
+checkedWords (Fault number place) plan words = words
 
 -- The text is written, and the lists hold the map, what the one-level run gives back, and the routes; the order of equal distances in the
 -- roster is left open (document 01, "Planning file" and "What the planner holds and leaves out").
-pub record Listed (check : Check) (header : Header) (arcs : List PlanArc) (l l′ : PlanLists) (route route′ output output′ : List ℕ) (bytes : ℕ) : Type 0 where
-  pub text : Writes 0 (checkedRoutes check header arcs) output output′ bytes
-  pub starts-after : l′ .starts ≡ wordsAfter check (startsOf (header .nodes) arcs) (l .starts)
-  pub heads-after : l′ .heads ≡ wordsAfter check (headsOf (header .nodes) arcs) (l .heads)
-  pub costs-after : l′ .costs ≡ wordsAfter check (costsOf (header .nodes) arcs) (l .costs)
-  pub distances-after : l′ .distances ≡ wordsAfter check (stepsOf one (planRun header arcs) .search .distances) (l .distances)
-  pub parents-after : l′ .parents ≡ wordsAfter check (stepsOf one (planRun header arcs) .search .parents) (l .parents)
-  pub roster-after : RosterAfter check (planRun header arcs .map) (header .source) (stepsOf one (planRun header arcs)) (l .roster) (l′ .roster)
-  pub work-after : l′ .work ≡ wordsAfter check (replicate (workWords one (header .nodes)) 0) (l .work)
-  pub route-after : route′ ≡ checkedWords check header arcs route
+pub record Listed (check : Check) (plan : Plan) (l l′ : PlanLists) (route route′ output output′ : List ℕ) (bytes : ℕ) : Type 0 where
+  pub text : Writes 0 (checkedRoutes check plan) output output′ bytes
+  pub starts-after : l′ .starts ≡ wordsAfter check (planStarts plan) (l .starts)
+  pub heads-after : l′ .heads ≡ wordsAfter check (planHeads plan) (l .heads)
+  pub costs-after : l′ .costs ≡ wordsAfter check (planCosts plan) (l .costs)
+  pub distances-after : l′ .distances ≡ wordsAfter check (planOneLevel plan .search .distances) (l .distances)
+  pub parents-after : l′ .parents ≡ wordsAfter check (planOneLevel plan .search .parents) (l .parents)
+  pub roster-after : RosterAfter check (planMap plan) (plan .header .source) (planOneLevel plan) (l .roster) (l′ .roster)
+  pub work-after : l′ .work ≡ wordsAfter check (replicate (workWords one (plan .header .nodes)) 0) (l .work)
+  pub route-after : route′ ≡ checkedWords check plan route
 
 -- From bytes to bytes, for every input (document 01, "Planning file" and "What a call returns").
 abbrev pub ItinerariesPromised : (bytes : List ℕ) → (l l′ : PlanLists) → (route route′ output output′ : List ℕ) → (written : ℕ) → Type 0
 ItinerariesPromised bytes l l′ route route′ output output′ written =
-    Listed (planningCheck bytes) (planHeader bytes) (planArcs bytes) l l′ route route′ output output′ written
+    Listed (planningCheck bytes) (planOf bytes) l l′ route route′ output output′ written
 
 -- ---- what a line tells
 

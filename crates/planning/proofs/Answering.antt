@@ -12,14 +12,13 @@ use Rattle.fields.specs.Writing.{Writes}
 use Rattle.fields.proofs.Written.{writes-inside}
 use Rattle.reader.specs.declared.PlanAnswer.{PlanAnswer}
 use Rattle.reader.specs.declared.PlanAnswer.the-variants.{Read, Refused}
-use Rattle.grouping.specs.Arcs.{PlanArc}
-use Rattle.reader.specs.Plans.{Header}
+use Rattle.reader.specs.Plans.{Plan}
 use Rattle.reader.specs.Promise.{PlanPromised}
-use Rattle.reader.proofs.Told.{read-told, passed, arcs-told, segments-told, inputs-told}
+use Rattle.reader.proofs.Told.{read-told, count-told, segments-told}
 use Rattle.reader.proofs.Runnable.{file-allowed}
 use Rattle.report.specs.Report.{refusedText}
 use Rattle.planning.specs.Planning.{planningCheck, PlanLists, planLists, Answered, PlanningPromised, WordsLent, mapInputs, BothRunnable, BothRun}
-use Rattle.planning.proofs.Reading.{mapIn, long-check, refused-check, untouched, passed-check, map-read}
+use Rattle.planning.proofs.Reading.{mapIn, long-check, refused-check, untouched, passed-check, runnable, inputs-read, map-read}
 
 refused-answered : (bytes : List ℕ) {l : PlanLists} {number place : ℕ} {output output′ : List ℕ} {written : ℕ} → planningCheck bytes ≡ Fault number place
     → Writes 0 (refusedText number place) output output′ written → PlanningPromised bytes l l output output′ written
@@ -38,27 +37,27 @@ pub too-long : (bytes : List ℕ) (l : PlanLists) {output output′ : List ℕ} 
     → Writes 0 (refusedText 13 0) output output′ written → PlanningPromised bytes l l output output′ written
 too-long bytes l long W = refused-answered bytes (long-check bytes long) W
 
-module _ {bytes : List ℕ} (short : length bytes ≤ 65536) {l : PlanLists} (lent : WordsLent l) {starts′ heads′ costs′ : List ℕ} {answer : PlanAnswer}
+module _ (bytes : List ℕ) (short : length bytes ≤ 65536) {l : PlanLists} (lent : WordsLent l) {starts′ heads′ costs′ : List ℕ} {answer : PlanAnswer}
     (P : PlanPromised bytes (l .starts) (l .heads) (l .costs) starts′ heads′ costs′ answer) where
   pub read-refused : {number place : ℕ} {output output′ : List ℕ} {written : ℕ} → answer ≡ Refused number place → Writes 0 (refusedText number place) output output′ written
       → PlanningPromised bytes l (mapIn l starts′ heads′ costs′) output output′ written
   read-refused {output = output} {output′ = output′} {written = written} a W =
-      subst (λ (l′ : PlanLists). PlanningPromised bytes l l′ output output′ written) (sym (untouched short lent P a))
-      (refused-answered bytes (refused-check short lent P a) W)
+      subst (λ (l′ : PlanLists). PlanningPromised bytes l l′ output output′ written) (sym (untouched bytes short lent P a))
+      (refused-answered bytes (refused-check bytes short lent P a) W)
 
   module _ {n m C K : ℕ} {source : Node} (a : answer ≡ Read n m C source K) where
     pub both-read : BothRunnable n m C (source .0) K (mapIn l starts′ heads′ costs′)
     both-read = record {
-      one-level = map-read short lent P a one tt (omega arith);
-      two-level = map-read short lent P a (two K) (subst (λ (k : ℕ). Allowed (two k)) (sym (segments-told P a)) (file-allowed bytes _ _ _ (passed P a))) (omega arith);
+      one-level = map-read bytes short lent P a one tt (omega arith);
+      two-level = map-read bytes short lent P a (two K) (subst (λ (k : ℕ). Allowed (two k)) (sym (segments-told P a)) (file-allowed (runnable bytes short lent P a))) (omega arith);
     }
 
     pub map-answered : {distances′ parents′ roster′ work′ output output′ : List ℕ} {written : ℕ} → let l′ = planLists starts′ heads′ costs′ distances′ parents′ roster′ work′ in
         BothRun m K (mapInputs n m C (source .0) (mapIn l starts′ heads′ costs′)) (mapIn l starts′ heads′ costs′) l′ output output′ written
         → PlanningPromised bytes l l′ output output′ written
     map-answered B =
-        let E = rw (inputs-told P a, arcs-told P a, segments-told P a) at B in
-        rw (passed-check short lent P a)
+        let E = rw (inputs-read bytes short lent P a, count-told P a, segments-told P a) at B in
+        rw (passed-check bytes short lent P a)
         (record {
           text = E .text;
           starts-after = read-told P a .starts-after;
@@ -71,6 +70,6 @@ module _ {bytes : List ℕ} (short : length bytes ≤ 65536) {l : PlanLists} (le
         })
 
 -- What is written lies within the output.
-pub answer-within : {check : Check} {header : Header} {arcs : List PlanArc} {l l′ : PlanLists} {output output′ : List ℕ} {written : ℕ}
-    → Answered check header arcs l l′ output output′ written → written ≤ length output′
+pub answer-within : {check : Check} {plan : Plan} {l l′ : PlanLists} {output output′ : List ℕ} {written : ℕ}
+    → Answered check plan l l′ output output′ written → written ≤ length output′
 answer-within A = writes-inside (A .text)

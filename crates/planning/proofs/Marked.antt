@@ -16,9 +16,10 @@ use Rattle.fields.specs.Texts.{bytesOf}
 use Rattle.grouping.specs.Groups.{keysBelow, having, groupsFrom, startsFrom}
 use Rattle.grouping.specs.Arcs.{startsOf, headsOf, costsOf}
 use Rattle.grouping.specs.Listing.{listingArcs}
-use Rattle.cursor.specs.Lines.{arcLine, headerLine}
+use Rattle.cursor.specs.Lines.{lineNumbers}
+use Rattle.reader.specs.Lines.{arcLine, headerLine}
 use Rattle.reader.specs.Checking.{arcChecks, arcsCheck, headerChecks, planCheck}
-use Rattle.reader.specs.Plans.{linesArcs, planInputs}
+use Rattle.reader.specs.Plans.{linesArcs, planOf, planRun}
 use Rattle.report.specs.Report.{refusedText, countsLine, heapLine, orNone, nodeLine, nodeLines, acceptedText}
 use Rattle.planning.specs.Planning.{planningCheck, planText}
 use Rattle.planning.specs.Marked.{Told, answer, numbers, givenFor, said, listingFile, files, marked}
@@ -41,7 +42,7 @@ numbers-hold = rows-given edges ∙ ap (map answer) edges-hold ∙ sym (rows-sai
 -- ---- the files
 
 files-hold : map givenFor files ≡ map said files
-unfolding givenFor said files stepsOf network linksFrom label remove blank logFrom ceilLog oneLevelBuckets twoLevelBuckets oneLevel twoLevel bucketFrom heapLabel heapRelax heapRelaxAll pick rebound boundsAfter move heapRemove heapScan heapFrom boundsFrom firstBounds heapBlank heapStart heap planText planningCheck bytesOf faultIf firstFault lentChecks digits numberFrom isField field fields decimalBy renderFields arcLine headerLine arcChecks arcsCheck headerChecks planCheck linesArcs keysBelow having groupsFrom startsFrom refusedText countsLine heapLine orNone nodeLine nodeLines acceptedText
+unfolding givenFor said files stepsOf network linksFrom label remove blank logFrom ceilLog oneLevelBuckets twoLevelBuckets oneLevel twoLevel bucketFrom heapLabel heapRelax heapRelaxAll pick rebound boundsAfter move heapRemove heapScan heapFrom boundsFrom firstBounds heapBlank heapStart heap planText planningCheck bytesOf faultIf firstFault lentChecks digits numberFrom isField field fields decimalBy renderFields lineNumbers arcLine headerLine arcChecks arcsCheck headerChecks planCheck linesArcs keysBelow having groupsFrom startsFrom refusedText countsLine heapLine orNone nodeLine nodeLines acceptedText
 files-hold = refl
 
 -- ---- the table
@@ -55,6 +56,6 @@ marked-hold =
 -- ---- the listing
 
 -- The map of the listing is that of its arcs, which a road file may tell in another order.
-pub listing-told : planInputs (bytesOf listingFile) ≡ inputs 5 9 0 (startsOf 5 listingArcs) (headsOf 5 listingArcs) (costsOf 5 listingArcs)
-unfolding listingArcs bytesOf digits numberFrom isField field fields arcLine headerLine linesArcs keysBelow having groupsFrom startsFrom
+pub listing-told : planRun (planOf (bytesOf listingFile)) ≡ inputs 5 9 0 (startsOf 5 listingArcs) (headsOf 5 listingArcs) (costsOf 5 listingArcs)
+unfolding listingArcs bytesOf digits numberFrom isField field fields lineNumbers arcLine headerLine linesArcs keysBelow having groupsFrom startsFrom
 listing-told = refl

@@ -12,11 +12,11 @@ use Rattle.checks.specs.Checks.{firstFault, runChecks}
 use Rattle.reader.specs.declared.PlanAnswer.{PlanAnswer}
 use Rattle.reader.specs.declared.PlanAnswer.the-variants.{Read, Refused}
 use Rattle.reader.specs.Checking.{planCheck}
-use Rattle.reader.specs.Plans.{planHeader}
+use Rattle.reader.specs.Plans.{planOf, planRun}
 use Rattle.reader.specs.Promise.{PlanPromised}
-use Rattle.reader.proofs.Runnable.{runs-pass}
-use Rattle.reader.proofs.Told.{refused, refused-told, passed, runnable, nodes-told, starts-front, heads-front, costs-front, inputs-told}
-use Rattle.planning.specs.Planning.{planningCheck, PlanLists, planLists, planLengths, WordsLent, MapRunnable}
+use Rattle.reader.proofs.Runnable.{Runnable, read-runnable, runs-pass}
+use Rattle.reader.proofs.Told.{refused, refused-told, passed, nodes-told, starts-front, heads-front, costs-front, inputs-told}
+use Rattle.planning.specs.Planning.{planningCheck, PlanLists, planLists, planLengths, WordsLent, mapInputs, MapRunnable}
 
 -- The lists with a map in them.
 abbrev pub mapIn : PlanLists → (starts heads costs : List ℕ) → PlanLists
@@ -26,7 +26,7 @@ pub long-check : (bytes : List ℕ) → 65536 < length bytes → planningCheck b
 unfolding planningCheck
 long-check bytes long = rw (lt-ltb 65536 (length bytes) long) refl
 
-module _ {bytes : List ℕ} (short : length bytes ≤ 65536) {l : PlanLists} (lent : WordsLent l) {starts′ heads′ costs′ : List ℕ} {answer : PlanAnswer}
+module _ (bytes : List ℕ) (short : length bytes ≤ 65536) {l : PlanLists} (lent : WordsLent l) {starts′ heads′ costs′ : List ℕ} {answer : PlanAnswer}
     (P : PlanPromised bytes (l .starts) (l .heads) (l .costs) starts′ heads′ costs′ answer) where
   check-lent : planningCheck bytes ≡ planCheck bytes (length (l .starts)) (length (l .heads)) (length (l .costs))
   unfolding planningCheck
@@ -43,18 +43,25 @@ module _ {bytes : List ℕ} (short : length bytes ≤ 65536) {l : PlanLists} (le
     pub passed-check : planningCheck bytes ≡ Passed
     passed-check = check-lent ∙ passed P a
 
-    few : planHeader bytes .nodes ≤ 512
-    few = omega (arith, runnable P a .starts-fit, lent .starts-words)
+    pub runnable : Runnable (planOf bytes) (length (l .starts)) (length (l .heads)) (length (l .costs))
+    runnable = read-runnable bytes _ _ _ (passed P a)
+
+    -- What the runs are given is what the file tells.
+    pub inputs-read : mapInputs n m C (source .0) (mapIn l starts′ heads′ costs′) ≡ planRun (planOf bytes)
+    inputs-read = inputs-told P a runnable
+
+    few : planOf bytes .header .nodes ≤ 512
+    few = omega (arith, runnable .starts-fit, lent .starts-words)
 
     -- The run of every kind of heap that is allowed is accepted.
     pub map-read : (L : Levels) → Allowed L → fixedWords L ≤ 384 → MapRunnable L n m C (source .0) (mapIn l starts′ heads′ costs′)
     map-read L allowed words = record {
-      starts-fit = starts-front P a .1;
-      heads-fit = heads-front P a .1;
-      costs-fit = costs-front P a .1;
+      starts-fit = starts-front P a runnable .1;
+      heads-fit = heads-front P a runnable .1;
+      costs-fit = costs-front P a runnable .1;
       nodes-fit = omega (arith, few, nodes-told P a);
       accepted =
-          subst (λ (I : Inputs). firstFault (runChecks L I (planLengths l)) ≡ Passed) (sym (inputs-told P a))
-          (runs-pass bytes _ _ _ (passed P a) L allowed (planLengths l) (omega (arith, few, lent .distances-words)) (omega (arith, few, lent .parents-words))
+          subst (λ (I : Inputs). firstFault (runChecks L I (planLengths l)) ≡ Passed) (sym inputs-read)
+          (runs-pass runnable L allowed (planLengths l) (omega (arith, few, lent .distances-words)) (omega (arith, few, lent .parents-words))
           (omega (arith, few, lent .roster-words)) (omega (arith, few, lent .work-words, words)));
     }

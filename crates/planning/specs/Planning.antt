@@ -16,8 +16,7 @@ use Rattle.checks.specs.Checks.{firstFault, runChecks, Lengths, lengthsFor}
 use Rattle.runs.specs.Promise.{RosterAfter}
 use Rattle.fields.specs.Writing.{Writes}
 use Rattle.reader.specs.Checking.{planCheck}
-use Rattle.grouping.specs.Arcs.{PlanArc, startsOf, headsOf, costsOf}
-use Rattle.reader.specs.Plans.{Header, planHeader, planArcs, planRun}
+use Rattle.reader.specs.Plans.{Plan, planOf, planStarts, planHeads, planCosts, planRun}
 use Rattle.report.specs.Report.{refusedText, acceptedText}
 use Rattle.planning.specs.declared.RunNumbers.{RunNumbers}
 
@@ -33,16 +32,16 @@ unfoldable pub planningCheck : (bytes : List ℕ) → Check
 planningCheck bytes = cond (ltb mostBytes (length bytes)) (Fault 13 0) (planCheck bytes 513 2048 2048)
 
 -- The map of a planning file (document 01, "Planning file").
-abbrev pub planMap : Header → List PlanArc → Map
-planMap header arcs = planRun header arcs .map
+abbrev pub planMap : Plan → Map
+planMap plan = planRun plan .map
 
 -- The steps of the one-level run of a planning file (document 01, "One-level heap").
-abbrev pub planOneLevel : Header → List PlanArc → Heap
-planOneLevel header arcs = stepsOf one (planRun header arcs)
+abbrev pub planOneLevel : Plan → Heap
+planOneLevel plan = stepsOf one (planRun plan)
 
 -- The steps of the two-level run of a planning file (document 01, "Two-level heap").
-abbrev pub planTwoLevel : Header → List PlanArc → Heap
-planTwoLevel header arcs = stepsOf (two (header .segments)) (planRun header arcs)
+abbrev pub planTwoLevel : Plan → Heap
+planTwoLevel plan = stepsOf (two (plan .header .segments)) (planRun plan)
 
 -- The answer's text for m arcs and K, of the steps of both heaps over what the runs are given. Decreases, distances and parents are equal
 -- for both, and the one-level heap's are told (document 01, "Planning file").
@@ -55,14 +54,14 @@ heapsText m K I =
     (heapBuckets (two K) (I .ceiling)) (placements second) (second .looks)
     (first .search .distances) (first .search .parents)
 
--- The text for a file whose checks come to `check` (document 01, "Planning file").
-abbrev pub planAnswerText : Check → Header → List PlanArc → List ℕ
-planAnswerText Passed header arcs = heapsText (header .arcs) (header .segments) (planRun header arcs)
-planAnswerText (Fault number place) header arcs = refusedText number place
+-- The text for a file that tells `plan` and whose checks come to `check` (document 01, "Planning file").
+abbrev pub planAnswerText : Check → Plan → List ℕ
+planAnswerText Passed plan = heapsText (plan .header .count) (plan .header .segments) (planRun plan)
+planAnswerText (Fault number place) plan = refusedText number place
 
 -- What `plan` prints (document 01, "Planning file").
 unfoldable pub planText : (bytes : List ℕ) → List ℕ
-planText bytes = planAnswerText (planningCheck bytes) (planHeader bytes) (planArcs bytes)
+planText bytes = planAnswerText (planningCheck bytes) (planOf bytes)
 
 -- ---- the lists
 
@@ -90,20 +89,20 @@ planLists starts heads costs distances parents roster work = record {
 
 -- The text is written, and the lists hold the map and what the runs give back; the two-level run is made behind the one-level run, and the
 -- order of equal distances in its roster is left open (document 01, "Planning file" and "What the planner holds and leaves out").
-pub record Answered (check : Check) (header : Header) (arcs : List PlanArc) (l l′ : PlanLists) (output output′ : List ℕ) (bytes : ℕ) : Type 0 where
-  pub text : Writes 0 (planAnswerText check header arcs) output output′ bytes
-  pub starts-after : l′ .starts ≡ wordsAfter check (startsOf (header .nodes) arcs) (l .starts)
-  pub heads-after : l′ .heads ≡ wordsAfter check (headsOf (header .nodes) arcs) (l .heads)
-  pub costs-after : l′ .costs ≡ wordsAfter check (costsOf (header .nodes) arcs) (l .costs)
-  pub distances-after : l′ .distances ≡ wordsAfter check (planOneLevel header arcs .search .distances) (l .distances)
-  pub parents-after : l′ .parents ≡ wordsAfter check (planOneLevel header arcs .search .parents) (l .parents)
-  pub roster-after : RosterAfter check (planMap header arcs) (header .source) (planTwoLevel header arcs) (l .roster) (l′ .roster)
-  pub work-after : l′ .work ≡ wordsAfter check (replicate (workWords (two (header .segments)) (header .nodes)) 0) (l .work)
+pub record Answered (check : Check) (plan : Plan) (l l′ : PlanLists) (output output′ : List ℕ) (bytes : ℕ) : Type 0 where
+  pub text : Writes 0 (planAnswerText check plan) output output′ bytes
+  pub starts-after : l′ .starts ≡ wordsAfter check (planStarts plan) (l .starts)
+  pub heads-after : l′ .heads ≡ wordsAfter check (planHeads plan) (l .heads)
+  pub costs-after : l′ .costs ≡ wordsAfter check (planCosts plan) (l .costs)
+  pub distances-after : l′ .distances ≡ wordsAfter check (planOneLevel plan .search .distances) (l .distances)
+  pub parents-after : l′ .parents ≡ wordsAfter check (planOneLevel plan .search .parents) (l .parents)
+  pub roster-after : RosterAfter check (planMap plan) (plan .header .source) (planTwoLevel plan) (l .roster) (l′ .roster)
+  pub work-after : l′ .work ≡ wordsAfter check (replicate (workWords (two (plan .header .segments)) (plan .header .nodes)) 0) (l .work)
 
 -- From bytes to bytes, for every input (document 01, "Planning file" and "What a call returns").
 abbrev pub PlanningPromised : (bytes : List ℕ) → (l l′ : PlanLists) → (output output′ : List ℕ) → (written : ℕ) → Type 0
 PlanningPromised bytes l l′ output output′ written =
-    Answered (planningCheck bytes) (planHeader bytes) (planArcs bytes) l l′ output output′ written
+    Answered (planningCheck bytes) (planOf bytes) l l′ output output′ written
 
 -- ---- what the code goes by
 

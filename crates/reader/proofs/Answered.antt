@@ -6,15 +6,17 @@ use native.Mathlib.Omega.{arith}
 use lib.ListN.{length, drop}
 use Rattle.model.specs.declared.Check.the-variants.{Passed, Fault}
 use Rattle.model.specs.declared.Node.{Node}
-use Rattle.fields.specs.Fields.{Line, NoLine, Numbers, comma, line}
-use Rattle.fields.proofs.Lines.{line-within}
 use Rattle.checks.specs.Checks.{firstFault, lentChecks}
 use Rattle.checks.proofs.Order.{AllPass, none, more, passed-all}
 use Rattle.checks.proofs.Sizes.{passed-lent}
 use Rattle.grouping.specs.Filled.{Filled}
-use Rattle.cursor.specs.declared.HeaderLine.the-variants.{NoHeader, HeaderRead}
+use Rattle.cursor.specs.declared.LineNumbers.{LineNumbers}
+use Rattle.cursor.specs.declared.LineNumbers.the-variants.{NoNumbers, NumbersRead}
+use Rattle.cursor.specs.Lines.{lineNumbers}
+use Rattle.cursor.proofs.LinesRead.{numbers-within}
+use Rattle.reader.specs.declared.lines.HeaderLine.the-variants.{NoHeader, HeaderRead}
 use Rattle.reader.specs.declared.PlanAnswer.the-variants.{Read, Refused}
-use Rattle.cursor.specs.Lines.{headerOf, headerLine}
+use Rattle.reader.specs.Lines.{headerOf, headerLine}
 use Rattle.reader.specs.Checking.{arcsCheck, headerChecks, planCheck}
 use Rattle.reader.specs.Plans.{linesArcs}
 use Rattle.reader.specs.Promise.{PlanPromised}
@@ -24,13 +26,13 @@ use Rattle.reader.specs.Filling.{Fillable}
 
 pub header-within : (bytes : List ℕ) {n m C source K taken : ℕ} → headerLine bytes ≡ HeaderRead n m C source K taken → taken ≤ length bytes
 unfolding headerLine
-header-within bytes {n} {m} {C} {source} {K} {taken} e = go (line comma 5 bytes) refl e
+header-within bytes {n} {m} {C} {source} {K} {taken} e = go (lineNumbers 5 bytes) refl e
   where
-    go : (found : Line) → line comma 5 bytes ≡ found → headerOf found ≡ HeaderRead n m C source K taken → taken ≤ length bytes
-    go NoLine f e = absurd (let z : _≡_ {A = ℕ} 0 1 = cc in omega arith)
-    go (Numbers values taken′) f e =
+    go : (found : LineNumbers) → lineNumbers 5 bytes ≡ found → headerOf found ≡ HeaderRead n m C source K taken → taken ≤ length bytes
+    go NoNumbers f e = absurd (let z : _≡_ {A = ℕ} 0 1 = cc in omega arith)
+    go (NumbersRead first second third fourth fifth sixth seventh taken′) f e =
         let same : taken′ ≡ taken = cc in
-        omega (arith, line-within comma 5 (omega arith) bytes values taken′ f)
+        omega (arith, numbers-within 5 bytes f)
 
 -- ---- a refusal
 

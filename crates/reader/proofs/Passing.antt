@@ -10,26 +10,28 @@ use lib.ListN.{length, drop, length-drop}
 use lib.Seq.{drop-drop}
 use Rattle.model.specs.declared.Check.{Check}
 use Rattle.model.specs.declared.Check.the-variants.{Passed, Fault}
-use Rattle.fields.specs.Fields.{Line, NoLine, Numbers, comma, line}
-use Rattle.fields.proofs.Lines.{line-within}
 use Rattle.check_numbers.specs.Numbers.{faultIf}
 use Rattle.checks.specs.Checks.{firstFault}
 use Rattle.checks.proofs.Order.{one, stopped, gone-on}
-use Rattle.cursor.specs.declared.ArcLine.the-variants.{NoArc, ArcRead}
-use Rattle.cursor.specs.Lines.{arcOf, arcLine}
+use Rattle.cursor.specs.declared.LineNumbers.{LineNumbers}
+use Rattle.cursor.specs.declared.LineNumbers.the-variants.{NoNumbers, NumbersRead}
+use Rattle.cursor.specs.Lines.{lineNumbers}
+use Rattle.cursor.proofs.LinesRead.{numbers-within}
+use Rattle.reader.specs.declared.lines.ArcLine.the-variants.{NoArc, ArcRead}
+use Rattle.reader.specs.Lines.{arcOf, arcLine}
 use Rattle.reader.specs.Checking.{arcChecks, arcsCheck}
 
 -- ---- an arc's line lies within the bytes
 
 arc-line-within : (bytes : List ℕ) {tail head cost taken : ℕ} → arcLine bytes ≡ ArcRead tail head cost taken → taken ≤ length bytes
 unfolding arcLine
-arc-line-within bytes {tail} {head} {cost} {taken} e = go (line comma 3 bytes) refl e
+arc-line-within bytes {tail} {head} {cost} {taken} e = go (lineNumbers 3 bytes) refl e
   where
-    go : (found : Line) → line comma 3 bytes ≡ found → arcOf found ≡ ArcRead tail head cost taken → taken ≤ length bytes
-    go NoLine f e = absurd (let z : _≡_ {A = ℕ} 0 1 = cc in omega arith)
-    go (Numbers values taken′) f e =
+    go : (found : LineNumbers) → lineNumbers 3 bytes ≡ found → arcOf found ≡ ArcRead tail head cost taken → taken ≤ length bytes
+    go NoNumbers f e = absurd (let z : _≡_ {A = ℕ} 0 1 = cc in omega arith)
+    go (NumbersRead first second third fourth fifth sixth seventh taken′) f e =
         let same : taken′ ≡ taken = cc in
-        omega (arith, line-within comma 3 (omega arith) bytes values taken′ f)
+        omega (arith, numbers-within 3 bytes f)
 
 pub behind-within : (bytes : List ℕ) (at : ℕ) {tail head cost taken : ℕ} → at ≤ length bytes
     → arcLine (drop at bytes) ≡ ArcRead tail head cost taken → at + taken ≤ length bytes

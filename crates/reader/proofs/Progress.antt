@@ -15,8 +15,8 @@ use Rattle.grouping.specs.Filled.{Filled}
 use Rattle.grouping.proofs.Groups.{below-append, below-one}
 use Rattle.grouping.proofs.Starts.{starts-length, starts-split, starts-same}
 use Rattle.grouping.proofs.Order.{Rising, more, none-below, in-order}
-use Rattle.cursor.specs.declared.ArcLine.the-variants.{NoArc, ArcRead}
-use Rattle.cursor.specs.Lines.{arcLine}
+use Rattle.reader.specs.declared.lines.ArcLine.the-variants.{NoArc, ArcRead}
+use Rattle.reader.specs.Lines.{arcLine}
 use Rattle.reader.specs.Checking.{arcsCheck}
 use Rattle.reader.specs.Plans.{linesArcs}
 use Rattle.reader.specs.Filling.{Fillable, between}

@@ -7,13 +7,14 @@ use lib.ListN.{length, drop}
 use lib.Seq.{drop-append-seam}
 use Rattle.theory.specs.Runs.{inputs}
 use Rattle.fields.specs.Fields.{comma, renderLine}
-use Rattle.fields.proofs.Parsing.{FitFields, line-render}
-use Rattle.cursor.specs.declared.ArcLine.the-variants.{ArcRead}
-use Rattle.cursor.specs.declared.HeaderLine.the-variants.{HeaderRead}
-use Rattle.cursor.specs.Lines.{arcOf, arcLine, headerOf, headerLine}
+use Rattle.fields.proofs.Parsing.{FitFields}
+use Rattle.cursor.proofs.LinesRead.{numbers-rendered}
+use Rattle.reader.specs.declared.lines.ArcLine.the-variants.{ArcRead}
+use Rattle.reader.specs.declared.lines.HeaderLine.the-variants.{HeaderRead}
+use Rattle.reader.specs.Lines.{arcOf, arcLine, headerOf, headerLine}
 use Rattle.grouping.proofs.Valid.{same-map}
 use Rattle.grouping.specs.Arcs.{PlanArc, numbered, startsOf, headsOf, costsOf}
-use Rattle.reader.specs.Plans.{linesArcs, planArcs, headerNumbers, planRun, planInputs}
+use Rattle.reader.specs.Plans.{Header, headerNumbers, linesArcs, planOf, planRun}
 use Rattle.reader.specs.Rendering.{arcNumbers, renderArcs, renderHeader, renderPlan}
 
 -- Every number of the arcs fits a field.
@@ -24,7 +25,7 @@ FitArcs (arc ∷ arcs) = FitFields (arcNumbers arc) × FitArcs arcs
 arc-read : (arc : PlanArc) (rest : List ℕ) → FitFields (arcNumbers arc)
     → arcLine (renderLine comma (arcNumbers arc) ++ rest) ≡ ArcRead (arc .tail) (arc .head) (arc .cost) (length (renderLine comma (arcNumbers arc)))
 unfolding arcLine
-arc-read arc rest fit = ap arcOf (line-render comma refl (arcNumbers arc) rest fit (omega arith))
+arc-read arc rest fit = ap arcOf (numbers-rendered (arcNumbers arc) rest fit (omega arith))
 
 arcs-read : (arcs : List PlanArc) → FitArcs arcs → linesArcs (length arcs) (renderArcs arcs) ≡ arcs
 unfolding linesArcs renderArcs
@@ -40,13 +41,13 @@ module _ (n C source K : ℕ) (arcs : List PlanArc) (fit : FitFields (n ∷ leng
   pub header-rendered : headerLine (renderPlan n (length arcs) C source K arcs)
       ≡ HeaderRead n (length arcs) C source K (length (renderHeader n (length arcs) C source K))
   unfolding headerLine renderPlan
-  header-rendered = ap headerOf (line-render comma refl (n ∷ length arcs ∷ C ∷ source ∷ K ∷ []) (renderArcs arcs) fit (omega arith))
+  header-rendered = ap headerOf (numbers-rendered (n ∷ length arcs ∷ C ∷ source ∷ K ∷ []) (renderArcs arcs) fit (omega arith))
 
   behind : drop (length (renderHeader n (length arcs) C source K)) (renderPlan n (length arcs) C source K arcs) ≡ renderArcs arcs
   unfolding renderPlan
   behind = drop-append-seam (renderHeader n (length arcs) C source K) (renderArcs arcs)
 
-  pub arcs-rendered : FitArcs arcs → planArcs (renderPlan n (length arcs) C source K arcs) ≡ arcs
+  pub arcs-rendered : FitArcs arcs → planOf (renderPlan n (length arcs) C source K arcs) .arcs ≡ arcs
   arcs-rendered fits = rw header-rendered (ap (linesArcs (length arcs)) behind ∙ arcs-read arcs fits)
 
 -- Arcs in any order have the map of the planning file with the same arcs grouped by tail (document 02, paper 1).
@@ -55,7 +56,8 @@ module _ (n C source K : ℕ) (arcs : List PlanArc) where
   told = numbered n arcs
 
   pub grouped-rendered : FitFields (n ∷ length told ∷ C ∷ source ∷ K ∷ []) → FitArcs told
-      → planInputs (renderPlan n (length told) C source K told) ≡ inputs n C source (startsOf n arcs) (headsOf n arcs) (costsOf n arcs)
+      → planRun (planOf (renderPlan n (length told) C source K told)) ≡ inputs n C source (startsOf n arcs) (headsOf n arcs) (costsOf n arcs)
   grouped-rendered fit fits =
-      ap₂ planRun (ap headerNumbers (header-rendered n C source K told fit)) (arcs-rendered n C source K told fit fits)
+      ap₂ (λ (header : Header) (arcs : List PlanArc). planRun (record { header = header; arcs = arcs })) (ap headerNumbers (header-rendered n C source K told fit))
+      (arcs-rendered n C source K told fit fits)
       ∙ same-map n C source arcs

@@ -10,32 +10,31 @@ use Rattle.checks.specs.Checks.{firstFault, lentChecks, runChecks, Lengths}
 use Rattle.checks.proofs.Order.{AllPass, none, more, passed-all}
 use Rattle.checks.proofs.Sizes.{passed-range, passed-heads, passed-ceiling, passed-source, passed-lent}
 use Rattle.checks.proofs.Valid.{ready-passed}
-use Rattle.grouping.specs.Arcs.{PlanArc, headsOf, costsOf}
 use Rattle.grouping.proofs.Valid.{arcs-ends, heads-length, costs-length, arcs-valid}
-use Rattle.cursor.specs.declared.HeaderLine.{HeaderLine}
-use Rattle.cursor.specs.declared.HeaderLine.the-variants.{NoHeader, HeaderRead}
-use Rattle.cursor.specs.Lines.{headerLine}
+use Rattle.reader.specs.declared.lines.HeaderLine.{HeaderLine}
+use Rattle.reader.specs.declared.lines.HeaderLine.the-variants.{NoHeader, HeaderRead}
+use Rattle.reader.specs.Lines.{headerLine}
 use Rattle.reader.specs.Checking.{arcsCheck, headerChecks, headerLineCheck, planCheck}
-use Rattle.reader.specs.Plans.{Header, headerNumbers, planHeader, linesArcs, planArcs, planRun, planInputs}
+use Rattle.reader.specs.Plans.{headerNumbers, linesArcs, Plan, planUnder, planOf, planHeads, planCosts, planRun}
 use Rattle.reader.proofs.Shown.{arcs-shown}
 
--- a header, its arcs and the words of the lists lent for them, with which both runs can be made
-pub record Runnable (header : Header) (arcs : List PlanArc) (starts heads costs : ℕ) : Type 0 where
-  pub valid : ValidInputs (planRun header arcs)
-  pub heads-count : length (headsOf (header .nodes) arcs) ≡ header .arcs
-  pub costs-count : length (costsOf (header .nodes) arcs) ≡ header .arcs
-  pub segments-low : 2 ≤ header .segments
-  pub segments-high : header .segments ≤ 64
-  pub starts-fit : header .nodes + 1 ≤ starts
-  pub heads-fit : header .arcs ≤ heads
-  pub costs-fit : header .arcs ≤ costs
+-- what a file tells and the words of the lists lent for it, with which both runs can be made
+pub record Runnable (plan : Plan) (starts heads costs : ℕ) : Type 0 where
+  pub valid : ValidInputs (planRun plan)
+  pub heads-count : length (planHeads plan) ≡ plan .header .count
+  pub costs-count : length (planCosts plan) ≡ plan .header .count
+  pub segments-low : 2 ≤ plan .header .segments
+  pub segments-high : plan .header .segments ≤ 64
+  pub starts-fit : plan .header .nodes + 1 ≤ starts
+  pub heads-fit : plan .header .count ≤ heads
+  pub costs-fit : plan .header .count ≤ costs
 
 -- ---- the checks of a file
 
 module _ (bytes : List ℕ) (starts heads costs : ℕ) where
   header-runnable : (n m C source K taken : ℕ)
       → AllPass (headerChecks n m C source K starts heads costs ++ (arcsCheck n C m 0 0 (drop taken bytes) ∷ []))
-      → Runnable (headerNumbers (HeaderRead n m C source K taken)) (linesArcs m (drop taken bytes)) starts heads costs
+      → Runnable (planUnder (headerNumbers (HeaderRead n m C source K taken)) bytes) starts heads costs
   unfolding headerChecks lentChecks
   header-runnable n m C source K taken (more by-1 (more by-4 (more by-2 (more by-3 (more by-9 (more first (more second (more third (more arcs none))))))))) =
       let nodes = passed-range 1 n 1 4096 by-1 in
@@ -55,24 +54,23 @@ module _ (bytes : List ℕ) (starts heads costs : ℕ) where
       }
 
   line-runnable : (line : HeaderLine) → headerLineCheck line bytes starts heads costs ≡ Passed
-      → Runnable (headerNumbers line) (linesArcs (headerNumbers line .arcs) (drop (headerNumbers line .taken) bytes)) starts heads costs
+      → Runnable (planUnder (headerNumbers line) bytes) starts heads costs
   line-runnable NoHeader e = absurd (let z : _≡_ {A = ℕ} 0 1 = cc in omega arith)
   line-runnable (HeaderRead n m C source K taken) e = header-runnable n m C source K taken (passed-all _ e)
 
-  pub read-runnable : planCheck bytes starts heads costs ≡ Passed → Runnable (planHeader bytes) (planArcs bytes) starts heads costs
+  pub read-runnable : planCheck bytes starts heads costs ≡ Passed → Runnable (planOf bytes) starts heads costs
   unfolding planCheck
   read-runnable e = line-runnable (headerLine bytes) e
 
 -- ---- the checks of the runs
 
 -- no run on the file's map is refused, where the lists lent to it are long enough; of two levels with the file's K
-module _ (bytes : List ℕ) (starts heads costs : ℕ) (passed : planCheck bytes starts heads costs ≡ Passed) where
-  pub runs-pass : (L : Levels) → Allowed L → (room : Lengths) → planHeader bytes .nodes ≤ room .distances → planHeader bytes .nodes ≤ room .parents
-      → planHeader bytes .nodes ≤ room .roster → workWords L (planHeader bytes .nodes) ≤ room .work
-      → firstFault (runChecks L (planInputs bytes) room) ≡ Passed
+module _ {plan : Plan} {starts heads costs : ℕ} (R : Runnable plan starts heads costs) where
+  pub runs-pass : (L : Levels) → Allowed L → (room : Lengths) → plan .header .nodes ≤ room .distances → plan .header .nodes ≤ room .parents
+      → plan .header .nodes ≤ room .roster → workWords L (plan .header .nodes) ≤ room .work
+      → firstFault (runChecks L (planRun plan) room) ≡ Passed
   runs-pass L allowed room d p r w =
-      ready-passed
-      (record { valid = read-runnable bytes starts heads costs passed .valid; allowed = allowed; distances-fit = d; parents-fit = p; roster-fit = r; work-fit = w })
+      ready-passed (record { valid = R .valid; allowed = allowed; distances-fit = d; parents-fit = p; roster-fit = r; work-fit = w })
 
-  pub file-allowed : Allowed (two (planHeader bytes .segments))
-  file-allowed = let run = read-runnable bytes starts heads costs passed in (run .segments-low, run .segments-high)
+  pub file-allowed : Allowed (two (plan .header .segments))
+  file-allowed = (R .segments-low, R .segments-high)

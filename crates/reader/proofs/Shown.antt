@@ -15,9 +15,9 @@ use Rattle.grouping.proofs.All as every
 use Rattle.grouping.proofs.Order.{Rising}
 use Rattle.grouping.proofs.Order as rising
 use Rattle.grouping.proofs.Valid.{ArcsIn}
-use Rattle.cursor.specs.declared.ArcLine.{ArcLine}
-use Rattle.cursor.specs.declared.ArcLine.the-variants.{NoArc, ArcRead}
-use Rattle.cursor.specs.Lines.{arcLine}
+use Rattle.reader.specs.declared.lines.ArcLine.{ArcLine}
+use Rattle.reader.specs.declared.lines.ArcLine.the-variants.{NoArc, ArcRead}
+use Rattle.reader.specs.Lines.{arcLine}
 use Rattle.reader.specs.Checking.{arcChecks, arcsCheck}
 use Rattle.reader.specs.Plans.{linesArcs}
 

@@ -15,10 +15,9 @@ use Rattle.theory.specs.Runs.{inputs}
 use Rattle.theory.proofs.Cases.{differ}
 use Rattle.reader.specs.declared.PlanAnswer.{PlanAnswer}
 use Rattle.reader.specs.declared.PlanAnswer.the-variants.{Read, Refused}
-use Rattle.reader.specs.Checking.{planCheck}
-use Rattle.reader.specs.Plans.{Header, planHeader, planArcs, planStarts, planHeads, planCosts, planInputs}
-use Rattle.reader.specs.Promise.{PlanNumbers, planNumbers, planNumbersOf, wasRead, PlanAnswered, PlanPromised}
-use Rattle.reader.proofs.Runnable.{Runnable, read-runnable}
+use Rattle.reader.specs.Plans.{Header, Plan, planStarts, planHeads, planCosts, planRun}
+use Rattle.reader.specs.Promise.{PlanNumbers, planNumbers, planNumbersOf, wasRead, PlanAnswered}
+use Rattle.reader.proofs.Runnable.{Runnable}
 
 -- A refusal is the first fault of the checks.
 fault-told : (check : Check) (header : Header) (number place : ℕ) → false ≡ allPassed check → planNumbersOf (Refused number place) ≡ planNumbers check header → check ≡ Fault number place
@@ -38,21 +37,16 @@ front filled words k e l =
     let rest = drop (length filled) words in
     (ap (take k) e ∙ take-at filled rest k l, omega (arith, ap length e, length-append filled rest, l))
 
-module _ {bytes starts heads costs starts′ heads′ costs′ : List ℕ} {answer : PlanAnswer} (P : PlanPromised bytes starts heads costs starts′ heads′ costs′ answer) where
-  abbrev check : Check
-  check = planCheck bytes (length starts) (length heads) (length costs)
-
-  abbrev H : Header
-  H = planHeader bytes
-
+module _ {check : Check} {plan : Plan} {starts heads costs starts′ heads′ costs′ : List ℕ} {answer : PlanAnswer}
+    (P : PlanAnswered check plan starts heads costs starts′ heads′ costs′ answer) where
   abbrev Told : Check → Type 0
-  Told k = PlanAnswered k bytes starts heads costs starts′ heads′ costs′ answer
+  Told k = PlanAnswered k plan starts heads costs starts′ heads′ costs′ answer
 
   -- ---- a file that is refused
 
   module _ {number place : ℕ} (a : answer ≡ Refused number place) where
     pub refused : check ≡ Fault number place
-    refused = fault-told check H number place (sym (ap wasRead a) ∙ P .read) (sym (ap planNumbersOf a) ∙ P .numbers)
+    refused = fault-told check (plan .header) number place (sym (ap wasRead a) ∙ P .read) (sym (ap planNumbersOf a) ∙ P .numbers)
 
     pub refused-told : Told (Fault number place)
     refused-told = subst Told refused P
@@ -66,36 +60,36 @@ module _ {bytes starts heads costs starts′ heads′ costs′ : List ℕ} {answ
     pub read-told : Told Passed
     read-told = subst Told passed P
 
-    pub runnable : Runnable H (planArcs bytes) (length starts) (length heads) (length costs)
-    runnable = read-runnable bytes _ _ _ passed
-
-    numbers : planNumbersOf (Read n m C source K) ≡ planNumbers Passed H
+    numbers : planNumbersOf (Read n m C source K) ≡ planNumbers Passed (plan .header)
     numbers = sym (ap planNumbersOf a) ∙ read-told .numbers
 
-    pub nodes-told : n ≡ H .nodes
+    pub nodes-told : n ≡ plan .header .nodes
     nodes-told = ap (λ (k : PlanNumbers). k .nodes) numbers
 
-    pub arcs-told : m ≡ H .arcs
-    arcs-told = ap (λ (k : PlanNumbers). k .arcs) numbers
+    pub count-told : m ≡ plan .header .count
+    count-told = ap (λ (k : PlanNumbers). k .arcs) numbers
 
-    ceiling-told : C ≡ H .ceiling
+    ceiling-told : C ≡ plan .header .ceiling
     ceiling-told = ap (λ (k : PlanNumbers). k .ceiling) numbers
 
-    source-told : source .0 ≡ H .source
+    source-told : source .0 ≡ plan .header .source
     source-told = ap (λ (k : PlanNumbers). k .source) numbers
 
-    pub segments-told : K ≡ H .segments
+    pub segments-told : K ≡ plan .header .segments
     segments-told = ap (λ (k : PlanNumbers). k .segments) numbers
 
-    pub starts-front : (take (n + 1) starts′ ≡ planStarts bytes) × (n + 1 ≤ length starts′)
-    starts-front = front (planStarts bytes) starts (n + 1) (read-told .starts-after) (runnable .valid .sound .starts-length ∙ sym (add-one (H .nodes)) ∙ ap (λ (k : ℕ). k + 1) (sym nodes-told))
+    module _ (R : Runnable plan (length starts) (length heads) (length costs)) where
+      pub starts-front : (take (n + 1) starts′ ≡ planStarts plan) × (n + 1 ≤ length starts′)
+      starts-front =
+          front (planStarts plan) starts (n + 1) (read-told .starts-after)
+          (R .valid .sound .starts-length ∙ sym (add-one (plan .header .nodes)) ∙ ap (λ (k : ℕ). k + 1) (sym nodes-told))
 
-    pub heads-front : (take m heads′ ≡ planHeads bytes) × (m ≤ length heads′)
-    heads-front = front (planHeads bytes) heads m (read-told .heads-after) (runnable .heads-count ∙ sym arcs-told)
+      pub heads-front : (take m heads′ ≡ planHeads plan) × (m ≤ length heads′)
+      heads-front = front (planHeads plan) heads m (read-told .heads-after) (R .heads-count ∙ sym count-told)
 
-    pub costs-front : (take m costs′ ≡ planCosts bytes) × (m ≤ length costs′)
-    costs-front = front (planCosts bytes) costs m (read-told .costs-after) (runnable .costs-count ∙ sym arcs-told)
+      pub costs-front : (take m costs′ ≡ planCosts plan) × (m ≤ length costs′)
+      costs-front = front (planCosts plan) costs m (read-told .costs-after) (R .costs-count ∙ sym count-told)
 
-    -- what a run is given is what the file tells
-    pub inputs-told : inputs n C (source .0) (take (n + 1) starts′) (take m heads′) (take m costs′) ≡ planInputs bytes
-    inputs-told = rw (starts-front .0, heads-front .0, costs-front .0, nodes-told, ceiling-told, source-told) refl
+      -- what a run is given is what the file tells
+      pub inputs-told : inputs n C (source .0) (take (n + 1) starts′) (take m heads′) (take m costs′) ≡ planRun plan
+      inputs-told = rw (starts-front .0, heads-front .0, costs-front .0, nodes-told, ceiling-told, source-told) refl

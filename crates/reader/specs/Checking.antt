@@ -8,11 +8,11 @@ use Rattle.model.specs.declared.Check.{Check}
 use Rattle.model.specs.declared.Check.the-variants.{Fault}
 use Rattle.check_numbers.specs.Numbers.{faultIf, nodesCheck, headCountCheck, ceilingCheck, sourceCheck, segmentsCheck}
 use Rattle.checks.specs.Checks.{firstFault, mapLists, lentChecks}
-use Rattle.cursor.specs.declared.ArcLine.{ArcLine}
-use Rattle.cursor.specs.declared.ArcLine.the-variants.{NoArc, ArcRead}
-use Rattle.cursor.specs.declared.HeaderLine.{HeaderLine}
-use Rattle.cursor.specs.declared.HeaderLine.the-variants.{NoHeader, HeaderRead}
-use Rattle.cursor.specs.Lines.{arcLine, headerLine}
+use Rattle.reader.specs.declared.lines.ArcLine.{ArcLine}
+use Rattle.reader.specs.declared.lines.ArcLine.the-variants.{NoArc, ArcRead}
+use Rattle.reader.specs.declared.lines.HeaderLine.{HeaderLine}
+use Rattle.reader.specs.declared.lines.HeaderLine.the-variants.{NoHeader, HeaderRead}
+use Rattle.reader.specs.Lines.{arcLine, headerLine}
 
 -- 11: line missing, ill-formed or left over; lines are counted from 1 (document 01, "What a call returns").
 abbrev pub lineFault : (line : ℕ) → Check

@@ -1,3 +1,4 @@
+pub mod Lines
 pub mod Checking
 pub mod Plans
 pub mod Promise

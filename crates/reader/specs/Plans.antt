@@ -2,20 +2,20 @@
 use Prim.Native.Nat.{ℕ, zero, suc}
 use mathlib.Core.List.{List, [], _∷_}
 use lib.ListN.{drop}
-use Rattle.cursor.specs.declared.ArcLine.{ArcLine}
-use Rattle.cursor.specs.declared.ArcLine.the-variants.{NoArc, ArcRead}
-use Rattle.cursor.specs.declared.HeaderLine.{HeaderLine}
-use Rattle.cursor.specs.declared.HeaderLine.the-variants.{NoHeader, HeaderRead}
+use Rattle.reader.specs.declared.lines.ArcLine.{ArcLine}
+use Rattle.reader.specs.declared.lines.ArcLine.the-variants.{NoArc, ArcRead}
+use Rattle.reader.specs.declared.lines.HeaderLine.{HeaderLine}
+use Rattle.reader.specs.declared.lines.HeaderLine.the-variants.{NoHeader, HeaderRead}
 use Rattle.theory.specs.Runs.{Inputs, inputs}
 use Rattle.grouping.specs.Arcs.{PlanArc, startsOf, headsOf, costsOf}
-use Rattle.cursor.specs.Lines.{arcLine, headerLine}
+use Rattle.reader.specs.Lines.{arcLine, headerLine}
 
 -- ---- the numbers of the file
 
--- Line 1's five numbers, and the bytes that it takes (document 01, "Planning file").
+-- Line 1's five numbers, m as `count`, and the bytes that it takes (document 01, "Planning file").
 pub record Header : Type 0 where
   pub nodes : ℕ
-  pub arcs : ℕ
+  pub count : ℕ
   pub ceiling : ℕ
   pub source : ℕ
   pub segments : ℕ
@@ -23,19 +23,15 @@ pub record Header : Type 0 where
 
 -- The numbers of line 1; a file without one is refused, and its numbers count as 0 (document 01, "What a call returns").
 abbrev pub headerNumbers : HeaderLine → Header
-headerNumbers NoHeader = record { nodes = 0; arcs = 0; ceiling = 0; source = 0; segments = 0; taken = 0 }
+headerNumbers NoHeader = record { nodes = 0; count = 0; ceiling = 0; source = 0; segments = 0; taken = 0 }
 headerNumbers (HeaderRead n m C source K taken) = record {
   nodes = n;
-  arcs = m;
+  count = m;
   ceiling = C;
   source = source;
   segments = K;
   taken = taken;
 }
-
--- Line 1 of a planning file (document 01, "Planning file").
-abbrev pub planHeader : List ℕ → Header
-planHeader bytes = headerNumbers (headerLine bytes)
 
 -- An arc's line, and the arcs behind the bytes that it takes.
 abbrev pub arcAndBehind : ArcLine → (behind : ℕ → List PlanArc) → List PlanArc
@@ -47,29 +43,33 @@ unfoldable pub linesArcs : (left : ℕ) → List ℕ → List PlanArc
 linesArcs zero bytes = []
 linesArcs (suc left) bytes = arcAndBehind (arcLine bytes) (λ taken. linesArcs left (drop taken bytes))
 
--- The m arcs of a planning file, in the order of its lines (document 01, "Planning file").
-abbrev pub planArcs : List ℕ → List PlanArc
-planArcs bytes = linesArcs (planHeader bytes .arcs) (drop (planHeader bytes .taken) bytes)
+-- What a planning file tells: line 1's numbers, and its arcs in the order of its lines (document 01, "Planning file").
+pub record Plan : Type 0 where
+  pub header : Header
+  pub arcs : List PlanArc
+
+-- What a file tells whose line 1 has these numbers: behind the bytes that it takes, as many arcs as it says (document 01, "Planning file").
+abbrev pub planUnder : Header → List ℕ → Plan
+planUnder header bytes = record { header = header; arcs = linesArcs (header .count) (drop (header .taken) bytes) }
+
+-- What the bytes of a file tell (document 01, "Planning file").
+abbrev pub planOf : List ℕ → Plan
+planOf bytes = planUnder (headerNumbers (headerLine bytes)) bytes
 
 -- ---- the map of the file
 
 -- The starts of a planning file (document 01, "Planning file").
-abbrev pub planStarts : List ℕ → List ℕ
-planStarts bytes = startsOf (planHeader bytes .nodes) (planArcs bytes)
+abbrev pub planStarts : Plan → List ℕ
+planStarts plan = startsOf (plan .header .nodes) (plan .arcs)
 
 -- The heads of a planning file (document 01, "Planning file").
-abbrev pub planHeads : List ℕ → List ℕ
-planHeads bytes = headsOf (planHeader bytes .nodes) (planArcs bytes)
+abbrev pub planHeads : Plan → List ℕ
+planHeads plan = headsOf (plan .header .nodes) (plan .arcs)
 
 -- The costs of a planning file (document 01, "Planning file").
-abbrev pub planCosts : List ℕ → List ℕ
-planCosts bytes = costsOf (planHeader bytes .nodes) (planArcs bytes)
-
--- What a run on a header and its arcs is given (document 01, "Planning file").
-abbrev pub planRun : Header → List PlanArc → Inputs
-planRun header arcs =
-    inputs (header .nodes) (header .ceiling) (header .source) (startsOf (header .nodes) arcs) (headsOf (header .nodes) arcs) (costsOf (header .nodes) arcs)
+abbrev pub planCosts : Plan → List ℕ
+planCosts plan = costsOf (plan .header .nodes) (plan .arcs)
 
 -- What a run on a planning file is given (document 01, "Planning file").
-abbrev pub planInputs : List ℕ → Inputs
-planInputs bytes = planRun (planHeader bytes) (planArcs bytes)
+abbrev pub planRun : Plan → Inputs
+planRun plan = inputs (plan .header .nodes) (plan .header .ceiling) (plan .header .source) (planStarts plan) (planHeads plan) (planCosts plan)

@@ -1,8 +1,8 @@
 // The first pass over a planning file: every check in order, and no word written (document 01, "What a call returns").
+use crate::lines::ArcLine;
+use crate::lines::arc_line_at;
 use checks::first_of;
 use checks::map_lists_check;
-use cursor::ArcLine;
-use cursor::arc_line_at;
 use cursor::left_over_at;
 use model::Check;
 use model::Node;

@@ -1,6 +1,6 @@
 // The second pass over a planning file: the lists are filled from lines that have passed their checks (document 01, "Planning file").
-use cursor::ArcLine;
-use cursor::arc_line_at;
+use crate::lines::ArcLine;
+use crate::lines::arc_line_at;
 ghost use mathlib.Core.Path.{_≡_};
 ghost use Prim.Native.Nat.{_≤_};
 ghost use lib.ListN.{length, drop};

@@ -1,11 +1,12 @@
 // The reader of planning files (document 01, "Planning file" and "What a call returns").
-use cursor::HeaderLine;
+use lines::HeaderLine;
 use model::Check;
 use model::Node;
 ghost use Rattle.reader.specs.Promise.{PlanPromised};
 
 mod checking;
 mod filling;
+mod lines;
 
 // What the reader gives back.
 pub enum PlanAnswer {
@@ -34,7 +35,7 @@ pub fn read(bytes: &[u8], starts: &mut [u32], heads: &mut [u32], costs: &mut [u3
         source,
         segments,
         taken,
-    } = cursor::header_line_at(bytes, 0)
+    } = lines::header_line_at(bytes, 0)
     else {
         return PlanAnswer::Refused {
             number: 11,

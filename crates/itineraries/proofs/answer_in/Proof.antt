@@ -25,21 +25,21 @@ list-map-requires c κs =
     let found : tie.After-nodes = search needs in
     let r = map-read found in
     let lends = start (short r) .pre in
-    (one-read (short r .if1 .left) (lends .lists) (r .read .ensures) (found .nodes .given .1), (lends .route-words, lends .output-bytes))
+    (one-read _ (short r .if1 .left) (lends .lists) (r .read .ensures) (found .nodes .given .1), (lends .route-words, lends .output-bytes))
 
 returns-2 : tie.Need-returns-2
 returns-2 c =
     let told : tie.After-write-refusal2 = search needs in
     let fault : tie.After-number = search needs in
     let r : tie.After-read = search needs in
-    read-refused (short r .if1 .left) (start (short r) .pre .lists) (r .read .ensures) (fault .number .given .1) (told .write-refusal2 .ensures)
+    read-refused _ (short r .if1 .left) (start (short r) .pre .lists) (r .read .ensures) (fault .number .given .1) (told .write-refusal2 .ensures)
 
 returns-3 : tie.Need-returns-3
 returns-3 c =
     let listed : tie.After-list-map = search needs in
     let found : tie.After-nodes = search needs in
     let r = map-read found in
-    map-listed (short r .if1 .left) (start (short r) .pre .lists) (r .read .ensures) (found .nodes .given .1) (listed .list-map .ensures)
+    map-listed _ (short r .if1 .left) (start (short r) .pre .lists) (r .read .ensures) (found .nodes .given .1) (listed .list-map .ensures)
 
 pub answer-in-spec : {M : Type 1} → statement M
 answer-in-spec =

@@ -25,21 +25,21 @@ plan-map-requires c κs =
     let found : tie.After-nodes = search needs in
     let r = map-read found in
     let lends = start (short r) .pre in
-    (both-read (short r .if1 .left) (lends .lists) (r .read .ensures) (found .nodes .given .1), lends .output-bytes)
+    (both-read _ (short r .if1 .left) (lends .lists) (r .read .ensures) (found .nodes .given .1), lends .output-bytes)
 
 returns-2 : tie.Need-returns-2
 returns-2 c =
     let told : tie.After-write-refusal2 = search needs in
     let fault : tie.After-number = search needs in
     let r : tie.After-read = search needs in
-    read-refused (short r .if1 .left) (start (short r) .pre .lists) (r .read .ensures) (fault .number .given .1) (told .write-refusal2 .ensures)
+    read-refused _ (short r .if1 .left) (start (short r) .pre .lists) (r .read .ensures) (fault .number .given .1) (told .write-refusal2 .ensures)
 
 returns-3 : tie.Need-returns-3
 returns-3 c =
     let planned : tie.After-plan-map = search needs in
     let found : tie.After-nodes = search needs in
     let r = map-read found in
-    map-answered (short r .if1 .left) (start (short r) .pre .lists) (r .read .ensures) (found .nodes .given .1) (planned .plan-map .ensures)
+    map-answered _ (short r .if1 .left) (start (short r) .pre .lists) (r .read .ensures) (found .nodes .given .1) (planned .plan-map .ensures)
 
 pub answer-in-spec : {M : Type 1} → statement M
 answer-in-spec =

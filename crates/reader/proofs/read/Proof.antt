@@ -2,8 +2,8 @@
 use mathlib.Core.Path.{_≡_, refl, sym, _∙_}
 use lib.ListN.{length}
 use borrow.Author.Needs.{needs}
-use Rattle.cursor.specs.declared.HeaderLine.the-variants.{HeaderRead}
-use Rattle.cursor.specs.Lines.{headerLine}
+use Rattle.reader.specs.declared.lines.HeaderLine.the-variants.{HeaderRead}
+use Rattle.reader.specs.Lines.{headerLine}
 use Rattle.reader.specs.Checking.{planCheck}
 use Rattle.reader.proofs.Answered.{header-within, no-header-promised, refused-promised, plan-check-is, fillable, read-promised}
 use Rattle.reader.proofs.read.Statement.{statement}

@@ -4,8 +4,8 @@ use Prim.Native.Nat.{_-_}
 use native.Mathlib.Omega.{arith}
 use lib.ListN.{drop}
 use borrow.Author.Needs.{needs}
-use Rattle.cursor.specs.declared.ArcLine.the-variants.{ArcRead}
-use Rattle.cursor.specs.Lines.{arcLine}
+use Rattle.reader.specs.declared.lines.ArcLine.the-variants.{ArcRead}
+use Rattle.reader.specs.Lines.{arcLine}
 use Rattle.reader.proofs.Passing.{Checked, checked-start, checked-next, checked-end, line-missing, arc-fails, behind-within}
 use Rattle.reader.proofs.checking.arcs_check.Statement.{statement}
 use Rattle.reader.proofs.checking.arcs_check.Tie as tie

@@ -4,8 +4,8 @@ use Prim.Native.Nat.{_-_, _<_}
 use native.Mathlib.Omega.{arith}
 use lib.ListN.{length, drop}
 use borrow.Author.Needs.{needs}
-use Rattle.cursor.specs.declared.ArcLine.the-variants.{ArcRead}
-use Rattle.cursor.specs.Lines.{arcLine}
+use Rattle.reader.specs.declared.lines.ArcLine.the-variants.{ArcRead}
+use Rattle.reader.specs.Lines.{arcLine}
 use Rattle.reader.proofs.Passing.{behind-within}
 use Rattle.reader.proofs.Progress.{Progress, progress-start, progress-next, progress-end, line-read, shown, next-not-past, starts-same-length, heads-same-length, costs-same-length}
 use Rattle.reader.proofs.filling.fill.Statement.{statement}
