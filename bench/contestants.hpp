@@ -29,20 +29,23 @@ struct Contestant {
     virtual std::vector<std::uint32_t> distances() const = 0;
 };
 
-// The planner: checks of the map, tallies, the roster and the clearing of the work words are inside the run.
+// The planner: checks of the map, tallies, the roster and the clearing of the work words are inside the run. Its peers know no holds, so they
+// are 0.
 class Planner : public Contestant {
 public:
     Planner(const Map &map, std::uint32_t segments)
-        : map(map), segments(segments), found(map.n), parents(map.n), roster(map.n), work(ROOSTERNOW_WORK_TWO_LEVEL(map.n)) {}
+        : map(map), segments(segments), holds(map.n), found(map.n), parents(map.n), roster(map.n), work(ROOSTERNOW_WORK_TWO_LEVEL(map.n)) {}
 
     void run() override {
         const std::size_t n = map.n, m = map.heads.size();
         if (segments == 0) {
             roosternow_one_level(map.n, map.ceiling, map.source, map.starts.data(), n + 1, map.heads.data(), m, map.costs.data(), m,
-                                 found.data(), n, parents.data(), n, roster.data(), n, work.data(), ROOSTERNOW_WORK_ONE_LEVEL(n), numbers);
+                                 holds.data(), n, found.data(), n, parents.data(), n, roster.data(), n, work.data(),
+                                 ROOSTERNOW_WORK_ONE_LEVEL(n), numbers);
         } else {
             roosternow_two_level(map.n, map.ceiling, map.source, segments, map.starts.data(), n + 1, map.heads.data(), m, map.costs.data(), m,
-                                 found.data(), n, parents.data(), n, roster.data(), n, work.data(), ROOSTERNOW_WORK_TWO_LEVEL(n), numbers);
+                                 holds.data(), n, found.data(), n, parents.data(), n, roster.data(), n, work.data(),
+                                 ROOSTERNOW_WORK_TWO_LEVEL(n), numbers);
         }
         if (numbers[ROOSTERNOW_RETURNED] != ROOSTERNOW_ACCEPTED) {
             std::cerr << map.name << ": " << roosternow_refusal_text(numbers[ROOSTERNOW_RETURNED]) << "\n";
@@ -58,7 +61,7 @@ public:
 private:
     const Map &map;
     std::uint32_t segments;
-    std::vector<std::uint32_t> found, parents, roster, work;
+    std::vector<std::uint32_t> holds, found, parents, roster, work;
     std::uint64_t numbers[ROOSTERNOW_RUN_NUMBERS];
 };
 

@@ -6,7 +6,11 @@
  * that says what it answers and what it leaves in every lent list, for every input that meets the rules here.
  *
  * The map. n nodes are numbered 0 to n - 1, m arcs from 0. The arcs leaving node v are numbers starts[v] up to but not including
- * starts[v + 1], arc a goes to node heads[a] and costs costs[a]. Self-loops and parallel arcs are allowed. Words are 32 bits.
+ * starts[v + 1], arc a goes to node heads[a] and costs costs[a], and node v has the hold holds[v]. Self-loops and parallel arcs are allowed.
+ * Words are 32 bits.
+ *
+ * What a route costs: its arcs' costs and the holds of the nodes strictly between its ends, each visit counted; at its ends it pays none.
+ * For a map without holds the caller lends n zeros, and a route costs the sum of its arcs' costs.
  *
  * Rules for every function.
  * - A list is a pointer and the number of its elements. The pointer is aligned for its type, and that many elements may be read, and
@@ -17,8 +21,9 @@
  * - There is no state between calls and no global state. Calls may run in several threads at once, and in interrupt handlers, if no list
  *   that one of them writes is used by another at that time. A function calls nothing back, does not block and always returns.
  * - In an interrupt handler: the code of this archive, as disassembled, uses the general registers and xmm0 to xmm6 (SSE2), nothing of x87,
- *   MMX or AVX, and no red zone. So a handler saves the SSE registers before a call, and all vector registers if its `memset` uses wider
- *   ones, as that of a C library may. The stack is aligned to 16 bytes as for every call and has the bytes that the function's "Costs" name;
+ *   MMX or AVX. So a handler saves the SSE registers before a call, and all vector registers if its `memset` uses wider ones, as that of a C
+ *   library may. The checks of a run use the red zone: an interrupt of the handler itself leaves the 128 bytes below the stack pointer as they
+ *   are, or has another stack. The stack is aligned to 16 bytes as for every call and has the bytes that the function's "Costs" name;
  *   `memset` is bound before, by a static link or `-z now`, since a dynamic linker that binds it in the call takes stack of its own.
  * - A function refuses, with a number and a place, whatever it is not to work on (enum roosternow_refusal); nothing has to be checked by
  *   the caller but the rules above.
@@ -50,7 +55,7 @@
 /* "None": the distance of an unreached node, the parent of the source and of unreached nodes. */
 #define ROOSTERNOW_NONE UINT32_C(4294967295)
 
-/* Words to lend for n nodes: starts, work of each run, and each of distances, parents, roster and route. */
+/* Words to lend for n nodes: starts, work of each run, and each of holds, distances, parents, roster and route. */
 #define ROOSTERNOW_STARTS(n) ((size_t)(n) + 1u)
 #define ROOSTERNOW_WORK_ONE_LEVEL(n) (4u * (size_t)(n) + 64u)
 #define ROOSTERNOW_WORK_TWO_LEVEL(n) (4u * (size_t)(n) + 384u)
@@ -125,8 +130,9 @@ enum roosternow_refusal {
     ROOSTERNOW_NO_PARENT = 15,
     ROOSTERNOW_BAD_PARENTS = 16,
     ROOSTERNOW_SHORT_ROUTE = 17,
-    ROOSTERNOW_BAD_ROAD_LINE = 18, /* roosternow_read_dimacs only; place: line from 1 */
-    ROOSTERNOW_BAD_ROAD_ORDER = 19 /* roosternow_read_dimacs only; place: line from 1 */
+    ROOSTERNOW_BAD_ROAD_LINE = 18,  /* roosternow_read_dimacs only; place: line from 1 */
+    ROOSTERNOW_BAD_ROAD_ORDER = 19, /* roosternow_read_dimacs only; place: line from 1 */
+    ROOSTERNOW_BAD_HOLD = 20        /* the runs only; place: least node, and 0 for a list that is not n words */
 };
 
 /* A refusal in words. */
@@ -140,7 +146,7 @@ static inline const char *roosternow_refusal_text(uint64_t returned) {
     case ROOSTERNOW_BAD_STARTS_LENGTH: return "starts not n + 1 words";
     case ROOSTERNOW_BAD_STARTS: return "starts: first not 0, one below its predecessor or above m, or last not m";
     case ROOSTERNOW_BAD_HEAD: return "head not below n; in a road file outside 1 to n";
-    case ROOSTERNOW_BAD_COST: return "cost above C";
+    case ROOSTERNOW_BAD_COST: return "cost above C, by itself or with its tail's hold";
     case ROOSTERNOW_BAD_SEGMENTS: return "K outside 2 to 64";
     case ROOSTERNOW_SHORT_LIST: return "lent list too short";
     case ROOSTERNOW_BAD_LINE: return "line missing, ill-formed or left over";
@@ -152,6 +158,7 @@ static inline const char *roosternow_refusal_text(uint64_t returned) {
     case ROOSTERNOW_SHORT_ROUTE: return "route list has fewer words than the route has nodes";
     case ROOSTERNOW_BAD_ROAD_LINE: return "line of a road file ill-formed or empty";
     case ROOSTERNOW_BAD_ROAD_ORDER: return "road file: second p line, arc before it or beyond m, or p line or arc lacking at the end";
+    case ROOSTERNOW_BAD_HOLD: return "holds not n words, or a hold above C";
     default: return "no refusal of this version";
     }
 }
@@ -198,19 +205,21 @@ uint32_t roosternow_version(void);
 /*
  * The one-level run: cheapest routes from the source to every node.
  *
- * Needs: the map in starts (n + 1 words), heads and costs (m words each); `ceiling` C, which no cost exceeds; n words for each of
- *   distances, parents and roster; ROOSTERNOW_WORK_ONE_LEVEL(n) words of work. None of these four has to be cleared.
+ * Needs: the map in starts (n + 1 words), heads and costs (m words each) and holds (n words); `ceiling` C, which no hold exceeds, and no cost
+ *   together with the hold of its arc's tail, the source's arcs included though they pay none; n words for each of distances, parents and
+ *   roster; ROOSTERNOW_WORK_ONE_LEVEL(n) words of work. None of these four has to be cleared.
  * Gives: distances[v], the least cost of a route to v, and parents[v], the last arc of such a route; ROOSTERNOW_NONE where there is none. A
  *   parent is the first arc examined that gives the distance, where nodes are scanned by distance and number, and arcs by number. roster[0]
  *   to roster[r - 1] are the reached nodes by nondecreasing distance, equal distances in any order. The ROOSTERNOW_WORK_ONE_LEVEL(n) first
  *   work words are 0. numbers: 0, 0, r, B, decreases, placements, looks.
- * Refuses: 1 to 8, then 10 with place 0 distances, 1 parents, 2 roster, 3 work; in this order, the first found.
- * Costs: time in proportion to n + m + r * B at most; stack below 1 KB.
+ * Refuses: 1 to 6, 20, 7, 8, then 10 with place 0 distances, 1 parents, 2 roster, 3 work; in this order, the first found.
+ * Costs: time in proportion to n + m + r * B at most; stack below 2 KB.
  */
 void roosternow_one_level(uint32_t n, uint32_t ceiling, uint32_t source,
                           const uint32_t *starts, size_t starts_words,
                           const uint32_t *heads, size_t heads_words,
                           const uint32_t *costs, size_t costs_words,
+                          const uint32_t *holds, size_t holds_words,
                           uint32_t *distances, size_t distances_words,
                           uint32_t *parents, size_t parents_words,
                           uint32_t *roster, size_t roster_words,
@@ -225,13 +234,14 @@ void roosternow_one_level(uint32_t n, uint32_t ceiling, uint32_t source,
  *   a slot is sized by heap operations, and 32 where time counts.
  * Needs: as roosternow_one_level, with ROOSTERNOW_WORK_TWO_LEVEL(n) words of work.
  * Gives: as roosternow_one_level, with distances, parents, r and decreases equal to its own, and ROOSTERNOW_WORK_TWO_LEVEL(n) work words 0.
- * Refuses: 1 to 9, then 10 with place 0 distances, 1 parents, 2 roster, 3 work; in this order, the first found.
+ * Refuses: 1 to 6, 20, 7, 8, 9, then 10 with place 0 distances, 1 parents, 2 roster, 3 work; in this order, the first found.
  * Costs: time in proportion to n + m + r * (B + K) at most; stack below 8 KB.
  */
 void roosternow_two_level(uint32_t n, uint32_t ceiling, uint32_t source, uint32_t segments,
                           const uint32_t *starts, size_t starts_words,
                           const uint32_t *heads, size_t heads_words,
                           const uint32_t *costs, size_t costs_words,
+                          const uint32_t *holds, size_t holds_words,
                           uint32_t *distances, size_t distances_words,
                           uint32_t *parents, size_t parents_words,
                           uint32_t *roster, size_t roster_words,
@@ -259,18 +269,20 @@ void roosternow_route(uint32_t n, uint32_t source,
 
 /*
  * The map of a planning file. Line 1 is n,m,C,source,K; then m lines tail,head,cost with tails never falling. A field is 1 to 7 digits with
- * no leading zero except 0 itself. Each line ends in one line feed, the last too.
+ * no leading zero except 0 itself. Each line ends in one line feed, the last too. Such a file means holds of 0.
  *
- * Needs: the file's bytes; n + 1 words of starts and m words of each of heads and costs at least.
- * Gives: n + 1 starts, m heads and m costs, as the runs take them; numbers: 0, 0, n, m, C, source, K. Both runs accept such a map.
- * Refuses: line 1 by 11, 1, 4, 2, 3, 9, then 10 with place 0 starts, 1 heads, 2 costs; then each line by 11, 12, 7, 8; then left-over
- *   bytes by 11; in this order, the first found.
+ * Needs: the file's bytes; n + 1 words of starts, m words of each of heads and costs and n words of holds at least.
+ * Gives: n + 1 starts, m heads, m costs and n holds of 0, as the runs take them; numbers: 0, 0, n, m, C, source, K. Both runs accept such a
+ *   map.
+ * Refuses: line 1 by 11, 1, 4, 2, 3, 9, then 10 with place 0 starts, 1 heads, 2 costs, 3 holds; then each line by 11, 12, 7, 8; then
+ *   left-over bytes by 11; in this order, the first found.
  * Costs: time in proportion to the bytes and n, the bytes read twice; stack below 1 KB.
  */
 void roosternow_read(const uint8_t *bytes, size_t bytes_length,
                      uint32_t *starts, size_t starts_words,
                      uint32_t *heads, size_t heads_words,
                      uint32_t *costs, size_t costs_words,
+                     uint32_t *holds, size_t holds_words,
                      uint64_t numbers[ROOSTERNOW_LENT(ROOSTERNOW_READ_NUMBERS)]);
 
 /*
@@ -280,7 +292,8 @@ void roosternow_read(const uint8_t *bytes, size_t bytes_length,
  *
  * Needs: the file's bytes; `ceiling` C, which no cost exceeds; n + 1 words of starts and m words of each of heads and costs at least.
  * Gives: n + 1 starts, m heads and m costs, as the runs take them: nodes from 0, arcs numbered by tail, in the order of the file within a
- *   tail. numbers: 0, 0, n, m. Both runs accept such a map with this C, every source below n and every K of 2 to 64.
+ *   tail. numbers: 0, 0, n, m. Both runs accept such a map with n holds of 0, which the caller lends, this C, every source below n and every
+ *   K of 2 to 64.
  * Refuses: line by line, 18, then 19 (a second p line, an arc before it or beyond m), then the p line by 1, 4, 2, then 10 with place 0
  *   starts, 1 heads, 2 costs, and an a line by 12 (tail outside 1 to n), 7 (head outside 1 to n), 8, each with the number of arcs before it;
  *   at the end 19 with the last line, 1 for an empty file, if the p line or an arc is lacking; in this order, the first found.
@@ -296,8 +309,8 @@ void roosternow_read_dimacs(const uint8_t *bytes, size_t bytes_length, uint32_t 
  * The text that the program `plan` prints for a planning file: both runs, with distances and parents, or one line `refused,NUMBER,PLACE`.
  *
  * Needs: the file's bytes, and lists of the fixed sizes. None has to be cleared.
- * Gives: the text at the front of output, and how many bytes it has. starts, heads and costs hold the map, distances, parents, roster and
- *   work what the two-level run leaves.
+ * Gives: the text at the front of output, and how many bytes it has. starts, heads, costs and holds have the map, distances, parents, roster
+ *   and work what the two-level run leaves.
  * Refuses: in its text, 13 first (more than 65,536 bytes), then as roosternow_read with lists of these sizes. Output is then written, and
  *   no other list.
  * Costs: as roosternow_read, both runs and the text, at most 64 bytes for each node and 512; stack below 8 KB.
@@ -306,6 +319,7 @@ size_t roosternow_answer(const uint8_t *bytes, size_t bytes_length,
                          uint32_t starts[ROOSTERNOW_LENT(ROOSTERNOW_ANSWER_STARTS)],
                          uint32_t heads[ROOSTERNOW_LENT(ROOSTERNOW_ANSWER_ARCS)],
                          uint32_t costs[ROOSTERNOW_LENT(ROOSTERNOW_ANSWER_ARCS)],
+                         uint32_t holds[ROOSTERNOW_LENT(ROOSTERNOW_ANSWER_NODES)],
                          uint32_t distances[ROOSTERNOW_LENT(ROOSTERNOW_ANSWER_NODES)],
                          uint32_t parents[ROOSTERNOW_LENT(ROOSTERNOW_ANSWER_NODES)],
                          uint32_t roster[ROOSTERNOW_LENT(ROOSTERNOW_ANSWER_NODES)],

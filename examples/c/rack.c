@@ -27,9 +27,10 @@ static const struct size sizes[LOOPS] = {
     {4096, 2, 1048575, 32},
 };
 
-/* Every arc of a loop, closed ones too: arc a leaves node a / arcs_of_node. */
+/* Every arc of a loop, closed ones too: arc a leaves node a / arcs_of_node. A hold is at most a quarter of the ceiling, and a cost at most the
+   rest, so that both together are within it. */
 static struct {
-    uint32_t heads[ARCS], costs[ARCS];
+    uint32_t heads[ARCS], costs[ARCS], holds[NODES];
     unsigned char closed[ARCS];
     uint64_t budget, most_used;
 } loops[LOOPS];
@@ -50,12 +51,20 @@ static uint32_t arcs_of(int loop) {
     return sizes[loop].n * sizes[loop].arcs_of_node;
 }
 
-/* A ring, and the further arcs of each node to anywhere. */
+static uint32_t most_hold(int loop) {
+    return sizes[loop].ceiling / 4;
+}
+
+static uint32_t some_cost(int loop) {
+    return below(sizes[loop].ceiling - most_hold(loop) + 1);
+}
+
+/* A ring, and the further arcs of each node to anywhere; no holds at first. */
 static void lay(int loop) {
     uint32_t n = sizes[loop].n, each = sizes[loop].arcs_of_node;
     for (uint32_t a = 0; a < arcs_of(loop); a++) {
         loops[loop].heads[a] = a % each == 0 ? (a / each + 1) % n : below(n);
-        loops[loop].costs[a] = below(sizes[loop].ceiling + 1);
+        loops[loop].costs[a] = some_cost(loop);
     }
 }
 
@@ -67,7 +76,8 @@ static void set_budget(int loop, uint32_t thousandths) {
     loops[loop].budget = most * thousandths / 1000;
 }
 
-/* What has happened on the floor since the slot before: closed arcs open, open arcs close or cost something else. */
+/* What has happened on the floor since the slot before: closed arcs open, open arcs close or cost something else, and a
+   door takes another time. */
 static void change(int loop) {
     uint32_t m = arcs_of(loop);
     for (uint32_t i = 0; i <= m / 32; i++) {
@@ -75,9 +85,10 @@ static void change(int loop) {
         if (loops[loop].closed[a] || below(8) == 0) {
             loops[loop].closed[a] = !loops[loop].closed[a];
         } else {
-            loops[loop].costs[a] = below(sizes[loop].ceiling + 1);
+            loops[loop].costs[a] = some_cost(loop);
         }
     }
+    loops[loop].holds[below(sizes[loop].n)] = below(most_hold(loop) + 1);
 }
 
 /* The map of a slot, in the lent lists: the open arcs, numbered anew. Gives their number. */
@@ -99,12 +110,13 @@ static uint32_t open_arcs(int loop) {
 
 static void plan(int loop, uint32_t m, uint64_t *numbers) {
     uint32_t n = sizes[loop].n, ceiling = sizes[loop].ceiling, segments = sizes[loop].segments;
+    const uint32_t *holds = loops[loop].holds;
     if (segments == 0) {
-        roosternow_one_level(n, ceiling, 0, starts, ROOSTERNOW_STARTS(n), heads, m, costs, m, distances, n, parents, n, roster, n, work,
-                             ROOSTERNOW_WORK_ONE_LEVEL(n), numbers);
+        roosternow_one_level(n, ceiling, 0, starts, ROOSTERNOW_STARTS(n), heads, m, costs, m, holds, n, distances, n, parents, n, roster, n,
+                             work, ROOSTERNOW_WORK_ONE_LEVEL(n), numbers);
     } else {
-        roosternow_two_level(n, ceiling, 0, segments, starts, ROOSTERNOW_STARTS(n), heads, m, costs, m, distances, n, parents, n, roster, n,
-                             work, ROOSTERNOW_WORK_TWO_LEVEL(n), numbers);
+        roosternow_two_level(n, ceiling, 0, segments, starts, ROOSTERNOW_STARTS(n), heads, m, costs, m, holds, n, distances, n, parents, n,
+                             roster, n, work, ROOSTERNOW_WORK_TWO_LEVEL(n), numbers);
     }
 }
 

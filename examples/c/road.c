@@ -12,6 +12,7 @@
 
 static uint8_t bytes[1u << 22]; /* 65,536 arcs take at most 20 bytes each; the rest is for comments */
 static uint32_t starts[ROOSTERNOW_STARTS(NODES)], heads[ARCS], costs[ARCS];
+static const uint32_t no_holds[NODES]; /* a road file tells none */
 static uint32_t distances[NODES], parents[NODES], roster[NODES], route[NODES], work[ROOSTERNOW_WORK_ONE_LEVEL(NODES)];
 
 static int refused(const char *what, const uint64_t *numbers) {
@@ -48,8 +49,8 @@ static int plan(size_t length, uint32_t ceiling) {
         return 1;
     }
     uint32_t n = (uint32_t)road[ROOSTERNOW_NODES], m = (uint32_t)road[ROOSTERNOW_ARCS];
-    roosternow_one_level(n, ceiling, 0, starts, ROOSTERNOW_STARTS(n), heads, m, costs, m, distances, n, parents, n, roster, n, work,
-                         ROOSTERNOW_WORK_ONE_LEVEL(n), run);
+    roosternow_one_level(n, ceiling, 0, starts, ROOSTERNOW_STARTS(n), heads, m, costs, m, no_holds, n, distances, n, parents, n, roster, n,
+                         work, ROOSTERNOW_WORK_ONE_LEVEL(n), run);
     if (refused("one level", run)) {
         return 1;
     }

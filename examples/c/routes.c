@@ -9,7 +9,7 @@
 #define MOST_BYTES (24u * (ARCS + 2u)) /* a field has at most 7 digits and a byte that ends it: three in an arc's line, five in line 1 */
 
 static uint8_t bytes[MOST_BYTES];
-static uint32_t starts[ROOSTERNOW_STARTS(NODES)], heads[ARCS], costs[ARCS];
+static uint32_t starts[ROOSTERNOW_STARTS(NODES)], heads[ARCS], costs[ARCS], holds[NODES];
 static uint32_t distances[NODES], parents[NODES], roster[NODES], route[NODES];
 static uint32_t work[ROOSTERNOW_WORK_TWO_LEVEL(NODES)]; /* enough for one level too */
 
@@ -44,13 +44,13 @@ static int print_route(uint32_t n, uint32_t m, uint32_t source, uint32_t destina
 
 static int plan(uint32_t n, uint32_t m, uint32_t ceiling, uint32_t source, uint32_t segments) {
     uint64_t one[ROOSTERNOW_RUN_NUMBERS], two[ROOSTERNOW_RUN_NUMBERS];
-    roosternow_one_level(n, ceiling, source, starts, ROOSTERNOW_STARTS(n), heads, m, costs, m, distances, n, parents, n, roster, n, work,
-                         ROOSTERNOW_WORK_ONE_LEVEL(n), one);
+    roosternow_one_level(n, ceiling, source, starts, ROOSTERNOW_STARTS(n), heads, m, costs, m, holds, n, distances, n, parents, n, roster,
+                         n, work, ROOSTERNOW_WORK_ONE_LEVEL(n), one);
     if (refused("one level", one)) {
         return 1;
     }
-    roosternow_two_level(n, ceiling, source, segments, starts, ROOSTERNOW_STARTS(n), heads, m, costs, m, distances, n, parents, n, roster,
-                         n, work, ROOSTERNOW_WORK_TWO_LEVEL(n), two);
+    roosternow_two_level(n, ceiling, source, segments, starts, ROOSTERNOW_STARTS(n), heads, m, costs, m, holds, n, distances, n, parents, n,
+                         roster, n, work, ROOSTERNOW_WORK_TWO_LEVEL(n), two);
     if (refused("two levels", two)) {
         return 1;
     }
@@ -82,7 +82,7 @@ int main(int count, char **words) {
         return 2;
     }
     uint64_t map[ROOSTERNOW_READ_NUMBERS];
-    roosternow_read(bytes, length, starts, ROOSTERNOW_STARTS(NODES), heads, ARCS, costs, ARCS, map);
+    roosternow_read(bytes, length, starts, ROOSTERNOW_STARTS(NODES), heads, ARCS, costs, ARCS, holds, NODES, map);
     if (refused("file", map)) {
         return 1;
     }

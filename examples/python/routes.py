@@ -38,12 +38,12 @@ def called(function, count, *arguments):
 
 def main(planner, data):
     file = (ctypes.c_uint8 * len(data)).from_buffer_copy(data)
-    starts, heads, costs = words(NODES + 1), words(ARCS), words(ARCS)
-    n, m, ceiling, source, segments = called(planner.roosternow_read, 7, *lent(file, starts, heads, costs))
-    starts, heads, costs = first(n + 1, starts), first(m, heads), first(m, costs)
+    starts, heads, costs, holds = words(NODES + 1), words(ARCS), words(ARCS), words(NODES)
+    n, m, ceiling, source, segments = called(planner.roosternow_read, 7, *lent(file, starts, heads, costs, holds))
+    starts, heads, costs, holds = first(n + 1, starts), first(m, heads), first(m, costs), first(n, holds)
     distances, parents, roster, route = words(n), words(n), words(n), words(n)
     size = [number(n), number(ceiling), number(source)]
-    lists = lent(starts, heads, costs, distances, parents, roster)
+    lists = lent(starts, heads, costs, holds, distances, parents, roster)
     one = called(planner.roosternow_one_level, 7, *size, *lists, *lent(words(4 * n + 64)))
     two = called(planner.roosternow_two_level, 7, *size, number(segments), *lists, *lent(words(4 * n + 384)))
     print("%d,%d,%d,%d" % (n, m, two[0], two[2]))

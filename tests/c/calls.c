@@ -25,7 +25,7 @@ static bool one_in(uint32_t chances) {
 
 enum function { ONE_LEVEL, TWO_LEVEL, ROUTE, READ, READ_DIMACS, ANSWER, FUNCTIONS };
 
-#define REFUSALS 20
+#define REFUSALS 21
 
 static const char *const names[FUNCTIONS] = {"one_level", "two_level", "route", "read", "read_dimacs", "answer"};
 static uint64_t told[FUNCTIONS][REFUSALS];
@@ -94,10 +94,10 @@ static void compare(const struct list *list, const void *expected, size_t filled
     expect(memcmp(list->base + GUARD + done, list->before + done, bytes - done) == 0, what);
 }
 
-static struct list starts, heads, costs, distances, parents, roster, work, route, bytes, output, run_numbers, route_numbers;
+static struct list starts, heads, costs, holds, distances, parents, roster, work, route, bytes, output, run_numbers, route_numbers;
 
 static void make_lists(void) {
-    starts = make(4, PLAIN_NODES + 8), heads = make(4, PLAIN_ARCS + 8), costs = make(4, PLAIN_ARCS + 8);
+    starts = make(4, PLAIN_NODES + 8), heads = make(4, PLAIN_ARCS + 8), costs = make(4, PLAIN_ARCS + 8), holds = make(4, PLAIN_NODES + 8);
     distances = make(4, PLAIN_NODES + 8), parents = make(4, PLAIN_NODES + 8), roster = make(4, PLAIN_NODES + 8);
     work = make(4, 4 * PLAIN_NODES + 400), route = make(4, PLAIN_NODES + 8);
     bytes = make(1, 36 * (PLAIN_ARCS + 8)), output = make(1, ROOSTERNOW_ANSWER_BYTES);
@@ -105,7 +105,8 @@ static void make_lists(void) {
 }
 
 static void free_lists(void) {
-    struct list *all[] = {&starts, &heads, &costs, &distances, &parents, &roster, &work, &route, &bytes, &output, &run_numbers, &route_numbers};
+    struct list *all[] = {&starts, &heads, &costs, &holds, &distances, &parents, &roster,
+                          &work, &route, &bytes, &output, &run_numbers, &route_numbers};
     for (size_t i = 0; i < sizeof all / sizeof all[0]; i++) free(all[i]->base), free(all[i]->before);
 }
 
@@ -125,6 +126,19 @@ static uint32_t some_ceiling(void) {
     return one_in(3) ? below(1048576) : edges[below(sizeof edges / sizeof edges[0])];
 }
 
+/* Holds of 0, small ones, or up to the ceiling; few nodes have the ceiling itself. */
+static void draw_holds(uint32_t n) {
+    uint32_t most = one_in(3) ? 0 : one_in(2) && map.ceiling > 3 ? 3 : map.ceiling;
+    lend(&holds, n);
+    for (uint32_t v = 0; v < n; v++) words_of(&holds)[v] = most > 0 && one_in(16) ? map.ceiling : below(most + 1);
+}
+
+/* A cost of an arc out of v: with its hold as much as the ceiling, or at most `dearest`. */
+static uint32_t some_cost(uint32_t v, uint32_t dearest) {
+    uint32_t left = map.ceiling - words_of(&holds)[v];
+    return one_in(16) ? left : below((dearest < left ? dearest : left) + 1);
+}
+
 /* A valid map of n nodes and m arcs in the lists. */
 static void draw_map(uint32_t n, uint32_t m) {
     uint32_t *start = words_of(&starts);
@@ -135,9 +149,10 @@ static void draw_map(uint32_t n, uint32_t m) {
     for (uint32_t a = 0; a < m; a++) start[below(n) + 1]++;
     for (uint32_t v = 0; v < n; v++) start[v + 1] += start[v];
     uint32_t dearest = one_in(4) && map.ceiling > 3 ? 3 : map.ceiling;
-    for (uint32_t a = 0; a < m; a++) {
-        words_of(&heads)[a] = below(n);
-        words_of(&costs)[a] = one_in(16) ? map.ceiling : below(dearest + 1);
+    draw_holds(n);
+    for (uint32_t a = 0; a < m; a++) words_of(&heads)[a] = below(n);
+    for (uint32_t v = 0; v < n; v++) {
+        for (uint32_t a = start[v]; a < start[v + 1]; a++) words_of(&costs)[a] = some_cost(v, dearest);
     }
 }
 
@@ -152,9 +167,27 @@ static void change_word(const struct list *list, uint32_t spread) {
     words_of(list)[below((uint32_t)list->length)] = one_in(4) ? below(UINT32_MAX) : below(spread);
 }
 
+/* One word more, one word fewer, or none. */
+static void change_length(struct list *list) {
+    switch (below(3)) {
+    case 0: list->length += list->length < list->capacity; break;
+    case 1: list->length -= list->length > 0; break;
+    default: list->length = 0; break;
+    }
+}
+
+/* An arc whose cost and its tail's hold are together above every ceiling, though not in 32 bits, where their sum wraps. */
+static void wrap_sum(void) {
+    uint32_t a = below((uint32_t)heads.length + 1), v = 0;
+    while (v + 1 < starts.length && words_of(&starts)[v + 1] <= a) v++;
+    if (a >= costs.length || v >= holds.length || map.ceiling == 0) return;
+    words_of(&holds)[v] = 1 + below(map.ceiling);
+    words_of(&costs)[a] = UINT32_MAX - below(words_of(&holds)[v]);
+}
+
 /* One fault in the map or in the words told with it; now and then it makes none. */
 static void damage_map(void) {
-    switch (below(14)) {
+    switch (below(18)) {
     case 0: map.n = one_in(2) ? 0 : 4097 + below(3); break;
     case 1: map.n = below(30); break;
     case 2: map.ceiling = 1048576 + below(3); break;
@@ -168,6 +201,10 @@ static void damage_map(void) {
     case 10: change_word(&heads, map.n + 2); break;
     case 11: change_word(&costs, map.ceiling + 2); break;
     case 12: segments = one_in(2) ? below(2) : 65 + below(1000); break;
+    case 13: change_word(&holds, map.ceiling + 2); break;
+    case 14: change_length(&holds); break;
+    case 15: wrap_sum(); break;
+    case 16: if (holds.length) words_of(&holds)[below((uint32_t)holds.length)] += 1; break;
     default: if (one_in(40)) lend(&heads, PLAIN_ARCS + 1), lend(&costs, PLAIN_ARCS + 1); break;
     }
 }
@@ -179,13 +216,14 @@ static void settle(struct list *list) {
 }
 
 static void settle_map(void) {
-    settle(&starts), settle(&heads), settle(&costs);
-    map.starts = words_of(&starts), map.heads = words_of(&heads), map.costs = words_of(&costs);
-    map.starts_words = starts.length, map.heads_words = heads.length, map.costs_words = costs.length;
+    settle(&starts), settle(&heads), settle(&costs), settle(&holds);
+    map.starts = words_of(&starts), map.heads = words_of(&heads), map.costs = words_of(&costs), map.holds = words_of(&holds);
+    map.starts_words = starts.length, map.heads_words = heads.length, map.costs_words = costs.length, map.holds_words = holds.length;
 }
 
 static void compare_map(void) {
     compare(&starts, NULL, 0, "starts changed"), compare(&heads, NULL, 0, "heads changed"), compare(&costs, NULL, 0, "costs changed");
+    compare(&holds, NULL, 0, "holds changed");
 }
 
 /* ---- the runs */
@@ -213,6 +251,16 @@ static void compare_roster(uint64_t reached) {
     }
 }
 
+/* Of a small map: each distance is the least cost of a route, by what a route costs. */
+static void expect_cheapest(void) {
+    static uint64_t least[PLAIN_NODES];
+    if (map.n > 24) return;
+    plain_cheapest(&map, least);
+    for (uint32_t v = 0; v < map.n; v++) {
+        expect(run.distances[v] == (least[v] == UINT64_MAX ? PLAIN_NONE : least[v]), "plain.h: a distance is not the least cost of a route");
+    }
+}
+
 static void call_run(bool two, uint32_t damage) {
     static const uint32_t zeros[4 * PLAIN_NODES + 384];
     uint64_t *numbers = lend_numbers(&run_numbers, ROOSTERNOW_RUN_NUMBERS);
@@ -221,13 +269,14 @@ static void call_run(bool two, uint32_t damage) {
     lend(&work, one_in(damage) ? needed - 1 - below((uint32_t)needed) : needed + below(5)), keep(&work);
     if (two) {
         roosternow_two_level(map.n, map.ceiling, map.source, segments, words_or_null(&starts), starts.length, words_or_null(&heads),
-                             heads.length, words_or_null(&costs), costs.length, words_or_null(&distances), distances.length,
-                             words_or_null(&parents), parents.length, words_or_null(&roster), roster.length, words_or_null(&work),
-                             work.length, numbers);
+                             heads.length, words_or_null(&costs), costs.length, words_or_null(&holds), holds.length,
+                             words_or_null(&distances), distances.length, words_or_null(&parents), parents.length, words_or_null(&roster),
+                             roster.length, words_or_null(&work), work.length, numbers);
     } else {
         roosternow_one_level(map.n, map.ceiling, map.source, words_or_null(&starts), starts.length, words_or_null(&heads), heads.length,
-                             words_or_null(&costs), costs.length, words_or_null(&distances), distances.length, words_or_null(&parents),
-                             parents.length, words_or_null(&roster), roster.length, words_or_null(&work), work.length, numbers);
+                             words_or_null(&costs), costs.length, words_or_null(&holds), holds.length, words_or_null(&distances),
+                             distances.length, words_or_null(&parents), parents.length, words_or_null(&roster), roster.length,
+                             words_or_null(&work), work.length, numbers);
     }
     size_t lent[4] = {distances.length, parents.length, roster.length, work.length};
     struct plain_fault fault = plain_run_check(&map, two, segments, lent);
@@ -235,6 +284,7 @@ static void call_run(bool two, uint32_t damage) {
     bool accepted = fault.number == 0;
     if (accepted) {
         expect(plain_plan(&map, two, segments, &run), "plain.h: the smallest node is not in the lowest bucket");
+        expect_cheapest();
         expected[2] = run.reached, expected[3] = run.buckets, expected[4] = run.decreases;
         expected[5] = run.placements, expected[6] = run.looks;
     }
@@ -274,7 +324,7 @@ static void call_route(uint32_t damage) {
 
 static struct plain_file file;
 
-/* The map of the lists as a planning file; a line has at most three numbers of 10 digits. */
+/* The map of the lists, but for its holds, as a planning file; a line has at most three numbers of 10 digits. */
 static void write_file(void) {
     char *text = (char *)bytes_of(&bytes);
     size_t room = bytes.capacity;
@@ -325,7 +375,7 @@ static void lend_map(uint32_t damage) {
     lend(&costs, one_in(damage) ? below(m + 1) : m + below(4)), keep(&costs);
 }
 
-/* The map of the file in the lists, or every word as it was. */
+/* The map of the file in the lists of both readers, or every word as it was. */
 static void compare_read(bool accepted) {
     compare(&bytes, NULL, 0, "read: bytes changed");
     compare(&starts, file.starts, accepted ? (size_t)file.n + 1 : 0, "read: starts");
@@ -335,10 +385,10 @@ static void compare_read(bool accepted) {
 
 static void call_read(uint32_t damage) {
     uint64_t *numbers = lend_numbers(&run_numbers, ROOSTERNOW_READ_NUMBERS);
-    lend_map(damage);
+    lend_map(damage), lend_by_node(&holds, damage);
     roosternow_read(bytes_or_null(), bytes.length, words_or_null(&starts), starts.length, words_or_null(&heads), heads.length,
-                    words_or_null(&costs), costs.length, numbers);
-    size_t lent[3] = {starts.length, heads.length, costs.length};
+                    words_or_null(&costs), costs.length, words_or_null(&holds), holds.length, numbers);
+    size_t lent[4] = {starts.length, heads.length, costs.length, holds.length};
     struct plain_fault fault = plain_read(bytes_of(&bytes), bytes.length, lent, &file);
     uint64_t expected[ROOSTERNOW_READ_NUMBERS] = {fault.number, fault.place, 0, 0, 0, 0, 0};
     bool accepted = fault.number == 0;
@@ -348,6 +398,7 @@ static void call_read(uint32_t damage) {
     told[READ][fault.number]++;
     compare(&run_numbers, expected, ROOSTERNOW_READ_NUMBERS, "read: numbers");
     compare_read(accepted);
+    compare(&holds, file.holds, accepted ? file.n : 0, "read: holds");
 }
 
 /* ---- road files */
@@ -426,7 +477,7 @@ static void compare_answer(struct plain_fault fault, size_t length) {
     size_t expected, n = accepted ? file.n : 0, m = accepted ? file.m : 0;
     if (accepted) {
         map.n = file.n, map.ceiling = file.ceiling, map.source = file.source;
-        map.starts = file.starts, map.heads = file.heads, map.costs = file.costs;
+        map.starts = file.starts, map.heads = file.heads, map.costs = file.costs, map.holds = file.holds;
         expect(plain_plan(&map, false, 0, &one) && plain_plan(&map, true, file.K, &run), "plain.h: the smallest node is not in the lowest bucket");
         expected = plain_text(text, sizeof text, &file, &one, &run);
     } else {
@@ -437,6 +488,7 @@ static void compare_answer(struct plain_fault fault, size_t length) {
     compare(&bytes, NULL, 0, "answer: bytes changed");
     compare(&starts, file.starts, accepted ? n + 1 : 0, "answer: starts");
     compare(&heads, file.heads, m, "answer: heads"), compare(&costs, file.costs, m, "answer: costs");
+    compare(&holds, file.holds, n, "answer: holds");
     compare(&distances, run.distances, n, "answer: distances"), compare(&parents, run.parents, n, "answer: parents");
     compare(&work, zeros, accepted ? 4 * n + 384 : 0, "answer: work");
     compare_roster(accepted ? run.reached : 0);
@@ -444,13 +496,14 @@ static void compare_answer(struct plain_fault fault, size_t length) {
 
 static void call_answer(void) {
     lend(&starts, ROOSTERNOW_ANSWER_STARTS), lend(&heads, ROOSTERNOW_ANSWER_ARCS), lend(&costs, ROOSTERNOW_ANSWER_ARCS);
+    lend(&holds, ROOSTERNOW_ANSWER_NODES);
     lend(&distances, ROOSTERNOW_ANSWER_NODES), lend(&parents, ROOSTERNOW_ANSWER_NODES), lend(&roster, ROOSTERNOW_ANSWER_NODES);
     lend(&work, ROOSTERNOW_ANSWER_WORK), lend(&output, ROOSTERNOW_ANSWER_BYTES);
-    struct list *all[] = {&starts, &heads, &costs, &distances, &parents, &roster, &work, &output};
+    struct list *all[] = {&starts, &heads, &costs, &holds, &distances, &parents, &roster, &work, &output};
     for (size_t i = 0; i < sizeof all / sizeof all[0]; i++) keep(all[i]);
-    size_t length = roosternow_answer(bytes_or_null(), bytes.length, words_of(&starts), words_of(&heads), words_of(&costs), words_of(&distances),
-                                      words_of(&parents), words_of(&roster), words_of(&work), bytes_of(&output));
-    static const size_t lent[3] = {ROOSTERNOW_ANSWER_STARTS, ROOSTERNOW_ANSWER_ARCS, ROOSTERNOW_ANSWER_ARCS};
+    size_t length = roosternow_answer(bytes_or_null(), bytes.length, words_of(&starts), words_of(&heads), words_of(&costs), words_of(&holds),
+                                      words_of(&distances), words_of(&parents), words_of(&roster), words_of(&work), bytes_of(&output));
+    static const size_t lent[4] = {ROOSTERNOW_ANSWER_STARTS, ROOSTERNOW_ANSWER_ARCS, ROOSTERNOW_ANSWER_ARCS, ROOSTERNOW_ANSWER_NODES};
     struct plain_fault fault = plain_fault(13, 0);
     if (bytes.length <= ROOSTERNOW_ANSWER_INPUT) fault = plain_read(bytes_of(&bytes), bytes.length, lent, &file);
     told[ANSWER][fault.number]++;
@@ -480,7 +533,8 @@ static void *work_on(void *argument) {
     for (int i = 0; own && i < 200; i++) {
         uint32_t n = map.n;
         roosternow_two_level(n, map.ceiling, map.source, segments, map.starts, map.starts_words, map.heads, map.heads_words, map.costs,
-                             map.costs_words, own, n, own + n, n, own + 2 * n, n, own + 3 * n, ROOSTERNOW_WORK_TWO_LEVEL(n), numbers);
+                             map.costs_words, map.holds, map.holds_words, own, n, own + n, n, own + 2 * n, n, own + 3 * n,
+                             ROOSTERNOW_WORK_TWO_LEVEL(n), numbers);
         worker->right = worker->right && numbers[0] == 0 && numbers[6] == worker->expected->looks;
         worker->right = worker->right && memcmp(own, worker->expected->distances, 4 * (size_t)n) == 0;
         worker->right = worker->right && memcmp(own + n, worker->expected->parents, 4 * (size_t)n) == 0;
@@ -508,7 +562,7 @@ static void call_from_threads(void) {
 
 /* Every refusal that a function can make has to be seen, as rows of the documents' table. */
 static void report(uint64_t inputs) {
-    static const uint32_t possible[FUNCTIONS] = {0x5FF, 0x7FF, 0x3C4FB, 0x1F9F, 0xC1597, 0x3F9F};
+    static const uint32_t possible[FUNCTIONS] = {0x1005FF, 0x1007FF, 0x3C4FB, 0x1F9F, 0xC1597, 0x3F9F};
     for (int function = 0; function < FUNCTIONS; function++) {
         uint64_t calls = 0;
         printf("%-11s", names[function]);

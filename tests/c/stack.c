@@ -9,7 +9,7 @@
 
 enum { NODES = 4096, STACK = 2 << 20, MARK = 0xa5, FILE_NODES = 512, FILE_ARCS = 2048 };
 
-static uint32_t starts[NODES + 1], heads[NODES], costs[NODES];
+static uint32_t starts[NODES + 1], heads[NODES], costs[NODES], holds[NODES];
 static uint32_t distances[NODES], parents[NODES], roster[NODES], work[ROOSTERNOW_WORK_TWO_LEVEL(NODES)], route[NODES];
 static uint64_t numbers[ROOSTERNOW_RUN_NUMBERS];
 static uint8_t file[65536], output[ROOSTERNOW_ANSWER_BYTES];
@@ -18,15 +18,15 @@ static uintptr_t frame;
 
 __attribute__((noinline)) static void *call_one_level(void *unused) {
     frame = (uintptr_t)__builtin_frame_address(0);
-    roosternow_one_level(NODES, 1048575, 0, starts, NODES + 1, heads, NODES - 1, costs, NODES - 1, distances, NODES, parents, NODES, roster,
-                         NODES, work, ROOSTERNOW_WORK_TWO_LEVEL(NODES), numbers);
+    roosternow_one_level(NODES, 1048575, 0, starts, NODES + 1, heads, NODES - 1, costs, NODES - 1, holds, NODES, distances, NODES, parents,
+                         NODES, roster, NODES, work, ROOSTERNOW_WORK_TWO_LEVEL(NODES), numbers);
     return unused;
 }
 
 __attribute__((noinline)) static void *call_two_level(void *unused) {
     frame = (uintptr_t)__builtin_frame_address(0);
-    roosternow_two_level(NODES, 1048575, 0, 64, starts, NODES + 1, heads, NODES - 1, costs, NODES - 1, distances, NODES, parents, NODES,
-                         roster, NODES, work, ROOSTERNOW_WORK_TWO_LEVEL(NODES), numbers);
+    roosternow_two_level(NODES, 1048575, 0, 64, starts, NODES + 1, heads, NODES - 1, costs, NODES - 1, holds, NODES, distances, NODES,
+                         parents, NODES, roster, NODES, work, ROOSTERNOW_WORK_TWO_LEVEL(NODES), numbers);
     return unused;
 }
 
@@ -38,7 +38,7 @@ __attribute__((noinline)) static void *call_route(void *unused) {
 
 __attribute__((noinline)) static void *call_read(void *unused) {
     frame = (uintptr_t)__builtin_frame_address(0);
-    roosternow_read(file, file_length, starts, NODES + 1, heads, NODES, costs, NODES, numbers);
+    roosternow_read(file, file_length, starts, NODES + 1, heads, NODES, costs, NODES, holds, NODES, numbers);
     return unused;
 }
 
@@ -50,7 +50,8 @@ __attribute__((noinline)) static void *call_read_dimacs(void *unused) {
 
 __attribute__((noinline)) static void *call_answer(void *unused) {
     frame = (uintptr_t)__builtin_frame_address(0);
-    numbers[ROOSTERNOW_RETURNED] = roosternow_answer(file, file_length, starts, heads, costs, distances, parents, roster, work, output) == 0;
+    size_t length = roosternow_answer(file, file_length, starts, heads, costs, holds, distances, parents, roster, work, output);
+    numbers[ROOSTERNOW_RETURNED] = length == 0;
     return unused;
 }
 
@@ -69,13 +70,15 @@ static size_t taken(void *(*call)(void *)) {
     return (size_t)(frame - (uintptr_t)(stack + lowest));
 }
 
-/* A chain, so that the route to its last node passes through all. */
+/* A chain, so that the route to its last node passes through all. Holds leave nothing of the ceiling, so that no look at all costs at once
+   settles refusal 8, and each sum is looked at. */
 static void lay_chain(void) {
     for (uint32_t v = 0; v < NODES; v++) starts[v] = v;
     starts[NODES] = NODES - 1;
     for (uint32_t a = 0; a + 1 < NODES; a++) {
         heads[a] = a + 1;
         costs[a] = a * 257 % 1048576;
+        holds[a] = 1048575 - costs[a];
     }
 }
 

@@ -1,22 +1,24 @@
--- What the checks of heads and costs say. Assumes nothing.
-use mathlib.Core.Path.{_≡_}
+-- What the checks of heads and holds say. Assumes nothing.
+use mathlib.Core.Path.{_≡_, refl}
+use mathlib.Core.Bool.{Bool, true, false, cond}
 use mathlib.Core.List.{List}
 use Prim.Native.Nat.{ℕ, _<_}
-use lib.Dec.{ltb, leb}
+use native.Mathlib.Omega.{arith}
+use lib.Dec.{leb, eqb}
 use lib.ListN.{length, getD}
-use borrow.Author.Tests.{ltb-false, leb-false, le-ltb, lt-leb}
-use Rattle.model.specs.declared.Check.the-variants.{Passed}
-use Rattle.check_lists.specs.Lists.{aboveCheck, headsCheck, costsCheck, NoneAbove}
+use borrow.Author.Tests.{ltb-false, leb-false, eqb-true, le-ltb, lt-leb, eq-eqb}
+use Rattle.model.specs.declared.Check.the-variants.{Passed, Fault}
+use Rattle.check_lists.specs.Lists.{wordAbove, aboveCheck, headsCheck, holdsCheck, NoneAbove}
 use Rattle.check_lists.proofs.Least.{each-passes, passed-each}
 
 module _ (number limit : ℕ) (words : List ℕ) where
-  pub passed-above : aboveCheck number limit words ≡ Passed → NoneAbove limit words
+  passed-above : aboveCheck number limit words ≡ Passed → NoneAbove limit words
   passed-above e i l =
-      ltb-false limit (getD words i 0) (passed-each number (λ k. ltb limit (getD words k 0)) (length words) i e l)
+      ltb-false limit (getD words i 0) (passed-each number (wordAbove limit words) (length words) i e l)
 
   pub none-above-passes : NoneAbove limit words → aboveCheck number limit words ≡ Passed
   none-above-passes h =
-      each-passes number (λ k. ltb limit (getD words k 0)) (length words) (λ i l. le-ltb limit (getD words i 0) (h i l))
+      each-passes number (wordAbove limit words) (length words) (λ i l. le-ltb limit (getD words i 0) (h i l))
 
 module _ (n : ℕ) (heads : List ℕ) where
   pub heads-below : headsCheck n heads ≡ Passed → (a : ℕ) → a < length heads → getD heads a 0 < n
@@ -27,11 +29,15 @@ module _ (n : ℕ) (heads : List ℕ) where
   unfolding headsCheck
   heads-pass h = each-passes 7 (λ k. leb n (getD heads k 0)) (length heads) (λ a l. lt-leb n (getD heads a 0) (h a l))
 
-module _ (C : ℕ) (costs : List ℕ) where
-  pub costs-most : costsCheck C costs ≡ Passed → NoneAbove C costs
-  unfolding costsCheck
-  costs-most e = passed-above 8 C costs e
+module _ (n C : ℕ) (holds : List ℕ) where
+  pub passed-holds : holdsCheck n C holds ≡ Passed → (length holds ≡ n) × NoneAbove C holds
+  unfolding holdsCheck
+  passed-holds e = go (eqb (length holds) n) refl e
+    where
+      go : (t : Bool) → eqb (length holds) n ≡ t → cond t (aboveCheck 20 C holds) (Fault 20 0) ≡ Passed → (length holds ≡ n) × NoneAbove C holds
+      go true f e = (eqb-true (length holds) n f, passed-above 20 C holds e)
+      go false f e = absurd (let z : _≡_ {A = ℕ} 0 1 = cc in omega arith)
 
-  pub costs-pass : NoneAbove C costs → costsCheck C costs ≡ Passed
-  unfolding costsCheck
-  costs-pass h = none-above-passes 8 C costs h
+  pub holds-pass : length holds ≡ n → NoneAbove C holds → holdsCheck n C holds ≡ Passed
+  unfolding holdsCheck
+  holds-pass long most = rw (eq-eqb (length holds) n long) (none-above-passes 20 C holds most)

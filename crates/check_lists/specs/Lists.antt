@@ -1,4 +1,4 @@
--- Numbers 6, 7 and 8, which look at every word of a list (document 01, "What a call returns").
+-- Numbers 6, 7 and 20, each of which looks at every word of one list (document 01, "What a call returns"; document 02, paper 2).
 use Prim.Native.Nat.{ℕ, zero, suc, _+_, _-_, _≤_, _<_}
 use mathlib.Core.Bool.{Bool, cond, not, _&&_, _||_}
 use mathlib.Core.List.{List}
@@ -14,9 +14,13 @@ unfoldable pub leastFault : (number : ℕ) → (fails : ℕ → Bool) → (i lef
 leastFault number fails i zero = Passed
 leastFault number fails i (suc left) = cond (fails i) (Fault number i) (leastFault number fails (suc i) left)
 
+-- The word at index i is above a limit (document 01, "What a call returns").
+abbrev pub wordAbove : (limit : ℕ) → (words : List ℕ) → (i : ℕ) → Bool
+wordAbove limit words i = ltb limit (getD words i 0)
+
 -- A limit for each word: the least index of a word above it is the place (document 01, "What a call returns").
 abbrev pub aboveCheck : (number limit : ℕ) → (words : List ℕ) → Check
-aboveCheck number limit words = leastFault number (λ i. ltb limit (getD words i 0)) 0 (length words)
+aboveCheck number limit words = leastFault number (wordAbove limit words) 0 (length words)
 
 -- ---- one definition for each number
 
@@ -36,13 +40,13 @@ startsCheck n m starts = leastFault 6 (startFails n m starts) 0 (n + 1)
 unfoldable pub headsCheck : (n : ℕ) → (heads : List ℕ) → Check
 headsCheck n heads = leastFault 7 (λ a. leb n (getD heads a 0)) 0 (length heads)
 
--- 8: the least arc whose cost is above C (document 01, "What a call returns").
-unfoldable pub costsCheck : (C : ℕ) → (costs : List ℕ) → Check
-costsCheck C costs = aboveCheck 8 C costs
+-- 20: not a hold for each of n nodes, with place 0; or the least node whose hold is above C (document 02, paper 2).
+unfoldable pub holdsCheck : (n C : ℕ) → (holds : List ℕ) → Check
+holdsCheck n C holds = cond (eqb (length holds) n) (aboveCheck 20 C holds) (Fault 20 0)
 
 -- ---- what a pass over a list shows where it finds nothing
 
--- No word is above the limit: heads pass 7, costs pass 8 (document 01, "What a call returns").
+-- No word is above the limit: heads pass 7, holds pass 20 (document 01, "What a call returns"; document 02, paper 2).
 abbrev pub NoneAbove : (limit : ℕ) → List ℕ → Type 0
 NoneAbove limit words = (i : ℕ) → i < length words → getD words i 0 ≤ limit
 

@@ -1,3 +1,3 @@
-// Numbers 6, 7 and 8, which look at every word of a list (document 01, "What a call returns").
+// Numbers 6, 7 and 20, each of which looks at every word of one list (document 01, "What a call returns"; document 02, paper 2).
 pub mod limits;
 pub mod starts;

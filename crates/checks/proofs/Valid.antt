@@ -1,31 +1,37 @@
 -- The lists of a map pass their checks exactly if they are sound, and a map, a ceiling and a source exactly if they are valid; what the
 -- checks of a run say besides. Assumes nothing.
 use mathlib.Core.Path.{_≡_, refl, sym, _∙_}
-use mathlib.Core.List.{List, _++_}
+use mathlib.Core.List.{List, [], _∷_, _++_}
 use Prim.Native.Nat.{ℕ, suc, _+_, _-_, _≤_}
 use native.Mathlib.Numerals.{add-one}
 use native.Mathlib.Omega.{arith}
 use lib.ListN.{length}
 use Rattle.model.specs.declared.Check.the-variants.{Passed}
 use Rattle.model.specs.declared.Check.{Check}
-use Rattle.theory.specs.Maps.{Map, arcs, Sound}
+use Rattle.theory.specs.Maps.{Map, arcs, tailOf, Sound}
 use Rattle.theory.specs.Runs.{Inputs, ValidInputs, Levels, one, two, Allowed, workWords}
+use Rattle.theory.proofs.Maps.Arcs.{leaves-arc}
+use Rattle.theory.proofs.Maps.Tails.{tail-leaves, tail-is}
 use Rattle.check_numbers.specs.Numbers.{nodesCheck, sourceCheck, startCountCheck}
-use Rattle.check_lists.specs.Lists.{startsCheck, headsCheck, NoneFalls}
+use Rattle.check_lists.specs.Lists.{startsCheck, headsCheck, NoneAbove, NoneFalls}
 use Rattle.check_lists.proofs.Start.{rise-passes, passed-fits}
-use Rattle.check_lists.proofs.Words.{heads-below, heads-pass, costs-most, costs-pass}
-use Rattle.checks.specs.Checks.{firstFault, sizeChecks, mapChecks, lentChecks, runLists, levelsChecks, runChecks, Lengths, Ready}
+use Rattle.check_lists.proofs.Words.{heads-below, heads-pass, passed-holds, holds-pass}
+use Rattle.check_sums.specs.Sums.{Summable}
+use Rattle.check_sums.proofs.Sums.{passed-sums, sums-pass}
+use Rattle.checks.specs.Checks.{firstFault, sizeChecks, listsChecks, tailSumsCheck, mapChecks, lentChecks, runLists, levelsChecks, runChecks, Lengths, Ready}
 use Rattle.checks.proofs.Order.{AllPass, none, more, passed-all, all-passed, first-passed, pass-parts, parts-pass}
 use Rattle.checks.proofs.Sizes.{passed-range, range-passes, passed-ceiling, ceiling-passes, passed-source, source-passes, passed-arcs, arcs-pass, passed-starts, starts-pass, passed-lent, lent-passes}
 
 -- ---- the lists of a map
 
--- The checks of a map that look at no cost pass. Number 4 stands as what it shows, since a route makes it without costs.
+-- The checks of a map that look at no cost and no hold pass. Number 4 and the length of holds stand as what they show, since a route
+-- checks neither costs nor holds.
 pub record ListsPass (M : Map) (source : ℕ) : Type 0 where
   pub nodes : nodesCheck (M .nodes) ≡ Passed
   pub from : sourceCheck (M .nodes) source ≡ Passed
   pub few : arcs M ≤ 65536
   pub paired : length (M .costs) ≡ arcs M
+  pub held : length (M .holds) ≡ M .nodes
   pub count : startCountCheck (M .nodes) (length (M .starts)) ≡ Passed
   pub words : startsCheck (M .nodes) (arcs M) (M .starts) ≡ Passed
   pub below : headsCheck (M .nodes) (M .heads) ≡ Passed
@@ -41,6 +47,7 @@ module _ {M : Map} {source : ℕ} where
         source-node = passed-source (M .nodes) source (p .from);
         few-arcs = p .few;
         costs-length = p .paired;
+        holds-length = p .held;
         starts-length = passed-starts (M .nodes) (length (M .starts)) (p .count) ∙ add-one (M .nodes);
         starts-first = fits 0 (omega arith) .first refl;
         starts-rise = λ v l.
@@ -56,6 +63,7 @@ module _ {M : Map} {source : ℕ} where
     from = source-passes (M .nodes) source (s .source-node);
     few = s .few-arcs;
     paired = s .costs-length;
+    held = s .holds-length;
     count = starts-pass (M .nodes) (length (M .starts)) long;
     words = rise-passes (M .nodes) (arcs M) (M .starts) long (s .starts-first) (s .starts-last) rise;
     below = heads-pass (M .nodes) (M .heads) (s .heads-nodes);
@@ -69,9 +77,21 @@ module _ {M : Map} {source : ℕ} where
           let e : suc (i - 1) ≡ i = omega arith in
           rw e at (s .starts-rise (i - 1) (omega (arith, s .starts-length)))
 
--- ---- a map
+-- ---- what the checks of a run's lists show
+
+-- Lists in order, and neither the ceiling nor a hold too high.
+pub record Ordered (I : Inputs) : Type 0 where
+  pub sound : Sound (I .map) (I .source)
+  pub low-ceiling : I .ceiling ≤ 1048575
+  pub holds-most : NoneAbove (I .ceiling) (I .map .holds)
+
+pub ordered-summable : {I : Inputs} → Ordered I → Summable (I .map .nodes) (I .ceiling) (I .map .starts) (I .map .costs) (I .map .holds)
+ordered-summable {I} o = record { heads = I .map .heads; source = I .source; sound = o .sound; holds-most = o .holds-most }
 
 module _ (I : Inputs) where
+  abbrev n : ℕ
+  n = I .map .nodes
+
   abbrev C : ℕ
   C = I .ceiling
 
@@ -81,32 +101,75 @@ module _ (I : Inputs) where
   abbrev costs : List ℕ
   costs = I .map .costs
 
-  valid : AllPass (mapChecks I) → ValidInputs I
-  unfolding sizeChecks mapChecks
-  valid (more nodes (more ceiling (more from (more both (more count (more words (more below (more most none)))))))) =
+  abbrev holds : List ℕ
+  holds = I .map .holds
+
+  ordered : AllPass (listsChecks I) → Ordered I
+  unfolding sizeChecks listsChecks
+  ordered (more nodes (more ceiling (more from (more both (more count (more words (more held (more below none)))))))) =
       let counts = passed-arcs (length heads) (length costs) both in
+      let each = passed-holds n C holds held in
       record {
-        sound = passed-sound (record { nodes = nodes; from = from; few = counts .0; paired = sym (counts .1); count = count; words = words; below = below });
+        sound =
+            passed-sound
+            (record {
+              nodes = nodes;
+              from = from;
+              few = counts .0;
+              paired = sym (counts .1);
+              held = each .0;
+              count = count;
+              words = words;
+              below = below;
+            });
         low-ceiling = passed-ceiling C ceiling;
-        costs-most = λ a l. costs-most C costs most a (omega (arith, counts .1));
+        holds-most = each .1;
       }
 
-  pub passed-valid : firstFault (mapChecks I) ≡ Passed → ValidInputs I
-  passed-valid e = valid (passed-all (mapChecks I) e)
+  pub passed-ordered : firstFault (listsChecks I) ≡ Passed → Ordered I
+  passed-ordered e = ordered (passed-all (listsChecks I) e)
 
-  pub valid-passed : ValidInputs I → firstFault (mapChecks I) ≡ Passed
-  unfolding sizeChecks mapChecks
-  valid-passed v =
-      let p = sound-passed (v .sound) in
+  pub ordered-passed : Ordered I → firstFault (listsChecks I) ≡ Passed
+  unfolding sizeChecks listsChecks
+  ordered-passed o =
+      let p = sound-passed (o .sound) in
       all-passed
       (more (p .nodes)
-      (more (ceiling-passes C (v .low-ceiling))
+      (more (ceiling-passes C (o .low-ceiling))
       (more (p .from)
       (more (arcs-pass (length heads) (length costs) (p .few) (sym (p .paired)))
-      (more (p .count)
-      (more (p .words)
-      (more (p .below)
-      (more (costs-pass C costs (λ a l. v .costs-most a (omega (arith, p .paired)))) none))))))))
+      (more (p .count) (more (p .words) (more (holds-pass n C holds (p .held) (o .holds-most)) (more (p .below) none))))))))
+
+  -- ---- a map
+
+  abbrev tails : ℕ → ℕ
+  tails a = tailOf n (I .map .starts) a
+
+  pub passed-valid : firstFault (mapChecks I) ≡ Passed → ValidInputs I
+  unfolding mapChecks
+  passed-valid e =
+      let p = pass-parts (listsChecks I) (tailSumsCheck I ∷ []) e in
+      let o = passed-ordered (p .0) in
+      let sums = passed-sums C tails costs holds (first-passed (passed-all (tailSumsCheck I ∷ []) (p .1))) in
+      record {
+        sound = o .sound;
+        low-ceiling = o .low-ceiling;
+        holds-most = λ v l. o .holds-most v (omega (arith, o .sound .holds-length));
+        sums-most = λ a v h.
+            rw (tail-is (o .sound) a v h) at (sums a (omega (arith, leaves-arc (o .sound) a v h, o .sound .costs-length)));
+      }
+
+  pub valid-passed : ValidInputs I → firstFault (mapChecks I) ≡ Passed
+  unfolding mapChecks
+  valid-passed v =
+      let o : Ordered I = record {
+        sound = v .sound;
+        low-ceiling = v .low-ceiling;
+        holds-most = λ i l. v .holds-most i (omega (arith, v .sound .holds-length));
+      } in
+      let sums = sums-pass C tails costs holds
+      (λ a l. v .sums-most a (tails a) (tail-leaves (v .sound) a (omega (arith, v .sound .costs-length)))) in
+      parts-pass (listsChecks I) (tailSumsCheck I ∷ []) (ordered-passed o) (all-passed (more sums none))
 
 -- ---- a run
 

@@ -1,11 +1,13 @@
--- The order in which each entry point makes the checks of what a call is given (document 01, "What a call returns").
+-- The order in which each entry point makes the checks of what a call is given (document 01, "What a call returns"; document 02, paper 2).
 use Prim.Native.Nat.{ℕ, suc, _+_, _≤_}
 use mathlib.Core.List.{List, [], _∷_, _++_}
 use lib.ListN.{length}
 use Rattle.model.specs.declared.Check.{Check}
 use Rattle.model.specs.declared.Check.the-variants.{Passed, Fault}
 use Rattle.check_numbers.specs.Numbers.{nodesCheck, ceilingCheck, sourceCheck, arcCountCheck, startCountCheck, segmentsCheck, lentCheck}
-use Rattle.check_lists.specs.Lists.{startsCheck, headsCheck, costsCheck}
+use Rattle.check_lists.specs.Lists.{startsCheck, headsCheck, holdsCheck}
+use Rattle.check_sums.specs.Sums.{sumsCheck}
+use Rattle.theory.specs.Maps.{tailOf}
 use Rattle.theory.specs.Runs.{Inputs, ValidInputs, Levels, one, two, Allowed, workWords}
 
 -- ---- what the order is made of
@@ -26,11 +28,15 @@ unfoldable pub lentChecks : (place : ℕ) → List LentList → List Check
 lentChecks place [] = []
 lentChecks place (list ∷ lists) = lentCheck place (list .words) (list .needed) ∷ lentChecks (suc place) lists
 
--- The lists of a map, lent to a reader that fills them: 0 starts, 1 heads, 2 costs (document 01, "What a call returns"; document 02,
+-- The lists lent to every reader, which fills them: 0 starts, 1 heads, 2 costs (document 01, "What a call returns"; document 02,
 -- paper 1).
 abbrev pub mapLists : (n m starts heads costs : ℕ) → List LentList
 mapLists n m starts heads costs =
     record { words = starts; needed = n + 1 } ∷ record { words = heads; needed = m } ∷ record { words = costs; needed = m } ∷ []
+
+-- The lists lent to the reader of planning files: these, then 3 holds (document 02, paper 2).
+abbrev pub fileLists : (n m starts heads costs holds : ℕ) → List LentList
+fileLists n m starts heads costs holds = mapLists n m starts heads costs ++ (record { words = holds; needed = n } ∷ [])
 
 -- ---- the order of each entry point's checks
 
@@ -39,11 +45,22 @@ unfoldable pub sizeChecks : (n C source starts heads costs : ℕ) → List Check
 sizeChecks n C source starts heads costs =
     nodesCheck n ∷ ceilingCheck C ∷ sourceCheck n source ∷ arcCountCheck heads costs ∷ startCountCheck n starts ∷ []
 
--- 1 to 8, the checks of a map, its ceiling and source, that every run makes first (document 01, "What a call returns").
-unfoldable pub mapChecks : Inputs → List Check
-mapChecks I =
+-- 1 to 6, 20 and 7: the checks of a map's lists, its ceiling and source (document 01, "What a call returns"; document 02, paper 2).
+unfoldable pub listsChecks : Inputs → List Check
+listsChecks I =
     sizeChecks (I .map .nodes) (I .ceiling) (I .source) (length (I .map .starts)) (length (I .map .heads)) (length (I .map .costs))
-    ++ (startsCheck (I .map .nodes) (length (I .map .heads)) (I .map .starts) ∷ headsCheck (I .map .nodes) (I .map .heads) ∷ costsCheck (I .ceiling) (I .map .costs) ∷ [])
+    ++ (startsCheck (I .map .nodes) (length (I .map .heads)) (I .map .starts)
+    ∷ holdsCheck (I .map .nodes) (I .ceiling) (I .map .holds)
+    ∷ headsCheck (I .map .nodes) (I .map .heads)
+    ∷ [])
+
+-- 8 of a run: an arc's cost together with its tail's hold, the source's arcs included (document 02, paper 2).
+abbrev pub tailSumsCheck : Inputs → Check
+tailSumsCheck I = sumsCheck (I .ceiling) (tailOf (I .map .nodes) (I .map .starts)) (I .map .costs) (I .map .holds)
+
+-- 1 to 6, 20, 7 and 8, the checks of a map that every run makes first (document 01, "What a call returns"; document 02, paper 2).
+unfoldable pub mapChecks : Inputs → List Check
+mapChecks I = listsChecks I ++ (tailSumsCheck I ∷ [])
 
 -- How long the lists lent to a run are: their places are 0 distances, 1 parents, 2 roster, 3 work (document 01, "What a call
 -- returns").
@@ -67,7 +84,7 @@ abbrev pub levelsChecks : Levels → List Check
 levelsChecks one = []
 levelsChecks (two K) = segmentsCheck K ∷ []
 
--- A run: 1 to 8, then 9 for two levels, then 10 (document 01, "What a call returns").
+-- A run: 1 to 6, 20, 7 and 8, then 9 for two levels, then 10 (document 01, "What a call returns"; document 02, paper 2).
 unfoldable pub runChecks : Levels → Inputs → Lengths → List Check
 runChecks L I lengths = mapChecks I ++ (levelsChecks L ++ lentChecks 0 (runLists (I .map .nodes) lengths (workWords L (I .map .nodes))))
 

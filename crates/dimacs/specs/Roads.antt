@@ -1,6 +1,7 @@
 -- The map of a road file (document 02, paper 1).
 use Prim.Native.Nat.{ℕ, _-_}
 use mathlib.Core.List.{List, [], _∷_}
+use lib.ListN.{replicate}
 use Rattle.theory.specs.Runs.{Inputs, inputs}
 use Rattle.grouping.specs.Arcs.{PlanArc, startsOf, headsOf, costsOf}
 use Rattle.dimacs_lines.specs.declared.RoadLine.{RoadLine}
@@ -42,10 +43,12 @@ roadHeads bytes = headsOf (road bytes .nodes) (road bytes .arcs)
 abbrev pub roadCosts : List ℕ → List ℕ
 roadCosts bytes = costsOf (road bytes .nodes) (road bytes .arcs)
 
--- What a run on what a road file tells is given, with a ceiling and a source (document 02, paper 1).
+-- What a run on what a road file tells is given, with a ceiling and a source (document 02, paper 1). A road file tells no holds: each is 0
+-- (document 02, paper 2).
 abbrev pub roadRun : Road → (C source : ℕ) → Inputs
 roadRun told C source =
     inputs (told .nodes) C source (startsOf (told .nodes) (told .arcs)) (headsOf (told .nodes) (told .arcs)) (costsOf (told .nodes) (told .arcs))
+    (replicate (told .nodes) 0)
 
 -- What a run on a road file is given, with a ceiling and a source (document 02, paper 1).
 abbrev pub roadInputs : List ℕ → (C source : ℕ) → Inputs

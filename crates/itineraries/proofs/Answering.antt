@@ -27,6 +27,7 @@ refused-listed bytes e W = rw e (record {
   starts-after = refl;
   heads-after = refl;
   costs-after = refl;
+  holds-after = refl;
   distances-after = refl;
   parents-after = refl;
   roster-after = refl;
@@ -38,20 +39,20 @@ pub too-long : (bytes : List ℕ) (l : PlanLists) {route output output′ : List
     → Writes 0 (refusedText 13 0) output output′ written → ItinerariesPromised bytes l l route route output output′ written
 too-long bytes l long W = refused-listed bytes (long-check bytes long) W
 
-module _ (bytes : List ℕ) (short : length bytes ≤ 65536) {l : PlanLists} (lent : WordsLent l) {starts′ heads′ costs′ : List ℕ} {answer : PlanAnswer}
-    (P : PlanPromised bytes (l .starts) (l .heads) (l .costs) starts′ heads′ costs′ answer) where
+module _ (bytes : List ℕ) (short : length bytes ≤ 65536) {l : PlanLists} (lent : WordsLent l) {starts′ heads′ costs′ holds′ : List ℕ} {answer : PlanAnswer}
+    (P : PlanPromised bytes (l .starts) (l .heads) (l .costs) (l .holds) starts′ heads′ costs′ holds′ answer) where
   pub read-refused : {number place : ℕ} {route output output′ : List ℕ} {written : ℕ} → answer ≡ Refused number place → Writes 0 (refusedText number place) output output′ written
-      → ItinerariesPromised bytes l (mapIn l starts′ heads′ costs′) route route output output′ written
+      → ItinerariesPromised bytes l (mapIn l starts′ heads′ costs′ holds′) route route output output′ written
   read-refused {route = route} {output = output} {output′ = output′} {written = written} a W =
       subst (λ (l′ : PlanLists). ItinerariesPromised bytes l l′ route route output output′ written) (sym (untouched bytes short lent P a))
       (refused-listed bytes (refused-check bytes short lent P a) W)
 
   module _ {n m C K : ℕ} {source : Node} (a : answer ≡ Read n m C source K) where
-    pub one-read : MapRunnable one n m C (source .0) (mapIn l starts′ heads′ costs′)
+    pub one-read : MapRunnable one n m C (source .0) (mapIn l starts′ heads′ costs′ holds′)
     one-read = map-read bytes short lent P a one tt (omega arith)
 
-    pub map-listed : {distances′ parents′ roster′ work′ route route′ output output′ : List ℕ} {written : ℕ} → let l′ = planLists starts′ heads′ costs′ distances′ parents′ roster′ work′ in
-        RunListed (mapInputs n m C (source .0) (mapIn l starts′ heads′ costs′)) (mapIn l starts′ heads′ costs′) l′ route route′ output output′ written
+    pub map-listed : {distances′ parents′ roster′ work′ route route′ output output′ : List ℕ} {written : ℕ} → let l′ = planLists starts′ heads′ costs′ holds′ distances′ parents′ roster′ work′ in
+        RunListed (mapInputs n m C (source .0) (mapIn l starts′ heads′ costs′ holds′)) (mapIn l starts′ heads′ costs′ holds′) l′ route route′ output output′ written
         → ItinerariesPromised bytes l l′ route route′ output output′ written
     map-listed B =
         let E = rw (inputs-read bytes short lent P a) at B in
@@ -61,6 +62,7 @@ module _ (bytes : List ℕ) (short : length bytes ≤ 65536) {l : PlanLists} (le
           starts-after = read-told P a .starts-after;
           heads-after = read-told P a .heads-after;
           costs-after = read-told P a .costs-after;
+          holds-after = read-told P a .holds-after;
           distances-after = E .distances-after;
           parents-after = E .parents-after;
           roster-after = E .roster-after;

@@ -25,10 +25,10 @@ along-nodes sound Route.here l (suc i) h = absurd (omega arith)
 along-nodes sound (Route.along {v} a q r) l zero h = l
 along-nodes sound (Route.along {v} a q r) l (suc i) h = along-nodes sound r (sound .heads-nodes a (leaves-arc sound a v q)) i (omega arith)
 
-module _ {n source : ℕ} {starts heads costs : List ℕ} (sound : Sound (mapOf n starts heads costs) source) {distances parents : List ℕ}
-    (cheapest : CheapestRoutes (mapOf n starts heads costs) source distances parents) where
+module _ {n source : ℕ} {starts heads costs holds : List ℕ} (sound : Sound (mapOf n starts heads costs holds) source) {distances parents : List ℕ}
+    (cheapest : CheapestRoutes (mapOf n starts heads costs holds) source distances parents) where
   abbrev M : Map
-  M = mapOf n starts heads costs
+  M = mapOf n starts heads costs holds
 
   module _ (v : ℕ) (node : v < n) (reached : getD distances v 0 ≡ none → ⊥) where
     spells : (route : List ℕ) × SpelledRoute M source parents v route × (routeCost M route ≡ distanceOf distances v)

@@ -25,11 +25,11 @@ use Rattle.itineraries.specs.Itineraries.{routeLine, lineIfReached, runR
 use Rattle.itineraries.proofs.Lines.{unreached-line, reached-line}
 use Rattle.itineraries.proofs.Reaching.{reached-served}
 
-passed-read : (bytes : List ℕ) → planningCheck bytes ≡ Passed → planCheck bytes 513 2048 2048 ≡ Passed
+passed-read : (bytes : List ℕ) → planningCheck bytes ≡ Passed → planCheck bytes 513 2048 2048 512 ≡ Passed
 unfolding planningCheck
 passed-read bytes e = go (ltb mostBytes (length bytes)) e
   where
-    go : (t : Bool) → cond t (Fault 13 0) (planCheck bytes 513 2048 2048) ≡ Passed → planCheck bytes 513 2048 2048 ≡ Passed
+    go : (t : Bool) → cond t (Fault 13 0) (planCheck bytes 513 2048 2048 512) ≡ Passed → planCheck bytes 513 2048 2048 512 ≡ Passed
     go true f = differ (cc)
     go false f = f
 
@@ -49,7 +49,7 @@ module _ (bytes : List ℕ) (accepted : planningCheck bytes ≡ Passed) where
   run = stepsOf one I
 
   valid : ValidInputs I
-  valid = read-runnable bytes 513 2048 2048 (passed-read bytes accepted) .valid
+  valid = read-runnable bytes 513 2048 2048 512 (passed-read bytes accepted) .valid
 
   cheapest : CheapestRoutes M (I .source) (run .search .distances) (run .search .parents)
   cheapest = run-demanded valid one tt .cheapest

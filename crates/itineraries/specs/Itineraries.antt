@@ -17,7 +17,7 @@ use Rattle.walk.specs.Walk.{nodesOf, nodesAlong}
 use Rattle.route.specs.Routes.{routeWalk, routeChecks}
 use Rattle.fields.specs.Fields.{comma, decimal, renderLine}
 use Rattle.fields.specs.Writing.{Writes}
-use Rattle.reader.specs.Plans.{Plan, planOf, planStarts, planHeads, planCosts, planRun}
+use Rattle.reader.specs.Plans.{Plan, planOf, planStarts, planHeads, planCosts, planHolds, planRun}
 use Rattle.report.specs.Report.{refusedText}
 use Rattle.planning.specs.Planning.{planningCheck, planMap, planOneLevel, PlanLists, WordsLent}
 
@@ -86,6 +86,7 @@ pub record Listed (check : Check) (plan : Plan) (l l′ : PlanLists) (route rout
   pub starts-after : l′ .starts ≡ wordsAfter check (planStarts plan) (l .starts)
   pub heads-after : l′ .heads ≡ wordsAfter check (planHeads plan) (l .heads)
   pub costs-after : l′ .costs ≡ wordsAfter check (planCosts plan) (l .costs)
+  pub holds-after : l′ .holds ≡ wordsAfter check (planHolds plan) (l .holds)
   pub distances-after : l′ .distances ≡ wordsAfter check (planOneLevel plan .search .distances) (l .distances)
   pub parents-after : l′ .parents ≡ wordsAfter check (planOneLevel plan .search .parents) (l .parents)
   pub roster-after : RosterAfter check (planMap plan) (plan .header .source) (planOneLevel plan) (l .roster) (l′ .roster)
@@ -99,7 +100,8 @@ ItinerariesPromised bytes l l′ route route′ output output′ written =
 
 -- ---- what a line tells
 
--- The line of a reached node is that of a route of the map, with its cost; no route to the node costs less (document 01, "Routes").
+-- The line of a reached node is that of a route of the map, with its cost; no route to the node costs less (document 01, "Routes"; document
+-- 02, paper 2).
 pub record CheapestLine (M : Map) (source v : ℕ) (line : List ℕ) : Type 0 where
   pub route : List ℕ
   pub is-route : Route M source route v

@@ -128,6 +128,7 @@ fn list_map(
     starts: &[u32],
     heads: &[u32],
     costs: &[u32],
+    holds: &[u32],
     distances: &mut [u32],
     parents: &mut [u32],
     roster: &mut [u32],
@@ -136,13 +137,13 @@ fn list_map(
     output: &mut [u8],
 ) -> usize
     requires { ⌜ MapRunnable one nodes arcs ceiling (source .0)
-        (planLists (now starts) (now heads) (now costs) (now distances) (now parents) (now roster) (now work)) ⌝ }
+        (planLists (now starts) (now heads) (now costs) (now holds) (now distances) (now parents) (now roster) (now work)) ⌝ }
     requires { ⌜ (length (now route) ≡ 512) × (length (now output) ≡ 1056800) ⌝ }
     ensures { λ r. ⌜ RunListed
         (mapInputs nodes arcs ceiling (source .0)
-        (planLists (now (starts .entry)) (now (heads .entry)) (now (costs .entry)) (now (distances .entry)) (now (parents .entry)) (now (roster .entry)) (now (work .entry))))
-        (planLists (now (starts .entry)) (now (heads .entry)) (now (costs .entry)) (now (distances .entry)) (now (parents .entry)) (now (roster .entry)) (now (work .entry)))
-        (planLists (now (starts .entry)) (now (heads .entry)) (now (costs .entry)) (now (distances .exit)) (now (parents .exit)) (now (roster .exit)) (now (work .exit)))
+        (planLists (now (starts .entry)) (now (heads .entry)) (now (costs .entry)) (now (holds .entry)) (now (distances .entry)) (now (parents .entry)) (now (roster .entry)) (now (work .entry))))
+        (planLists (now (starts .entry)) (now (heads .entry)) (now (costs .entry)) (now (holds .entry)) (now (distances .entry)) (now (parents .entry)) (now (roster .entry)) (now (work .entry)))
+        (planLists (now (starts .entry)) (now (heads .entry)) (now (costs .entry)) (now (holds .entry)) (now (distances .exit)) (now (parents .exit)) (now (roster .exit)) (now (work .exit)))
         (now (route .entry)) (now (route .exit)) (now (output .entry)) (now (output .exit)) r ⌝ }
 {
     let n = nodes as usize;
@@ -150,6 +151,7 @@ fn list_map(
     let map_starts = &starts[..n + 1];
     let map_heads = &heads[..m];
     let map_costs = &costs[..m];
+    let map_holds = &holds[..n];
     runs::one_level(
         nodes,
         ceiling,
@@ -157,6 +159,7 @@ fn list_map(
         map_starts,
         map_heads,
         map_costs,
+        map_holds,
         distances,
         parents,
         roster,
@@ -180,6 +183,7 @@ fn answer_in(
     starts: &mut [u32],
     heads: &mut [u32],
     costs: &mut [u32],
+    holds: &mut [u32],
     distances: &mut [u32],
     parents: &mut [u32],
     roster: &mut [u32],
@@ -187,16 +191,16 @@ fn answer_in(
     route: &mut [u32],
     output: &mut [u8],
 ) -> usize
-    requires { ⌜ ListLends (planLists (now starts) (now heads) (now costs) (now distances) (now parents) (now roster) (now work)) (now route) (now output) ⌝ }
+    requires { ⌜ ListLends (planLists (now starts) (now heads) (now costs) (now holds) (now distances) (now parents) (now roster) (now work)) (now route) (now output) ⌝ }
     ensures { λ r. ⌜ ItinerariesPromised (now (bytes .entry))
-        (planLists (now (starts .entry)) (now (heads .entry)) (now (costs .entry)) (now (distances .entry)) (now (parents .entry)) (now (roster .entry)) (now (work .entry)))
-        (planLists (now (starts .exit)) (now (heads .exit)) (now (costs .exit)) (now (distances .exit)) (now (parents .exit)) (now (roster .exit)) (now (work .exit)))
+        (planLists (now (starts .entry)) (now (heads .entry)) (now (costs .entry)) (now (holds .entry)) (now (distances .entry)) (now (parents .entry)) (now (roster .entry)) (now (work .entry)))
+        (planLists (now (starts .exit)) (now (heads .exit)) (now (costs .exit)) (now (holds .exit)) (now (distances .exit)) (now (parents .exit)) (now (roster .exit)) (now (work .exit)))
         (now (route .entry)) (now (route .exit)) (now (output .entry)) (now (output .exit)) r ⌝ }
 {
     if bytes.len() > 65536 {
         return report::write_refusal(output, 13, 0);
     }
-    match reader::read(bytes, starts, heads, costs) {
+    match reader::read(bytes, starts, heads, costs, holds) {
         PlanAnswer::Refused { number, place } => report::write_refusal(output, number, place),
         PlanAnswer::Read {
             nodes,
@@ -212,6 +216,7 @@ fn answer_in(
             starts,
             heads,
             costs,
+            holds,
             distances,
             parents,
             roster,
@@ -228,6 +233,7 @@ pub fn answer(
     starts: &mut [u32; 513],
     heads: &mut [u32; 2048],
     costs: &mut [u32; 2048],
+    holds: &mut [u32; 512],
     distances: &mut [u32; 512],
     parents: &mut [u32; 512],
     roster: &mut [u32; 512],
@@ -236,8 +242,8 @@ pub fn answer(
     output: &mut [u8; 1056800],
 ) -> usize
     ensures { λ r. ⌜ ItinerariesPromised (now (bytes .entry))
-        (planLists (now (starts .entry)) (now (heads .entry)) (now (costs .entry)) (now (distances .entry)) (now (parents .entry)) (now (roster .entry)) (now (work .entry)))
-        (planLists (now (starts .exit)) (now (heads .exit)) (now (costs .exit)) (now (distances .exit)) (now (parents .exit)) (now (roster .exit)) (now (work .exit)))
+        (planLists (now (starts .entry)) (now (heads .entry)) (now (costs .entry)) (now (holds .entry)) (now (distances .entry)) (now (parents .entry)) (now (roster .entry)) (now (work .entry)))
+        (planLists (now (starts .exit)) (now (heads .exit)) (now (costs .exit)) (now (holds .exit)) (now (distances .exit)) (now (parents .exit)) (now (roster .exit)) (now (work .exit)))
         (now (route .entry)) (now (route .exit)) (now (output .entry)) (now (output .exit)) r ⌝ }
 {
     answer_in(
@@ -245,6 +251,7 @@ pub fn answer(
         starts,
         heads,
         costs,
+        holds,
         distances,
         parents,
         roster,

@@ -5,6 +5,7 @@ fn main() {
     let mut starts = [0u32; 513];
     let mut heads = [0u32; 2048];
     let mut costs = [0u32; 2048];
+    let mut holds = [0u32; 512];
     let mut distances = [0u32; 512];
     let mut parents = [0u32; 512];
     let mut roster = [0u32; 512];
@@ -16,6 +17,7 @@ fn main() {
         &mut starts,
         &mut heads,
         &mut costs,
+        &mut holds,
         &mut distances,
         &mut parents,
         &mut roster,

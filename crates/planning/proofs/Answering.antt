@@ -27,6 +27,7 @@ refused-answered bytes e W = rw e (record {
   starts-after = refl;
   heads-after = refl;
   costs-after = refl;
+  holds-after = refl;
   distances-after = refl;
   parents-after = refl;
   roster-after = refl;
@@ -37,23 +38,23 @@ pub too-long : (bytes : List ℕ) (l : PlanLists) {output output′ : List ℕ} 
     → Writes 0 (refusedText 13 0) output output′ written → PlanningPromised bytes l l output output′ written
 too-long bytes l long W = refused-answered bytes (long-check bytes long) W
 
-module _ (bytes : List ℕ) (short : length bytes ≤ 65536) {l : PlanLists} (lent : WordsLent l) {starts′ heads′ costs′ : List ℕ} {answer : PlanAnswer}
-    (P : PlanPromised bytes (l .starts) (l .heads) (l .costs) starts′ heads′ costs′ answer) where
+module _ (bytes : List ℕ) (short : length bytes ≤ 65536) {l : PlanLists} (lent : WordsLent l) {starts′ heads′ costs′ holds′ : List ℕ} {answer : PlanAnswer}
+    (P : PlanPromised bytes (l .starts) (l .heads) (l .costs) (l .holds) starts′ heads′ costs′ holds′ answer) where
   pub read-refused : {number place : ℕ} {output output′ : List ℕ} {written : ℕ} → answer ≡ Refused number place → Writes 0 (refusedText number place) output output′ written
-      → PlanningPromised bytes l (mapIn l starts′ heads′ costs′) output output′ written
+      → PlanningPromised bytes l (mapIn l starts′ heads′ costs′ holds′) output output′ written
   read-refused {output = output} {output′ = output′} {written = written} a W =
       subst (λ (l′ : PlanLists). PlanningPromised bytes l l′ output output′ written) (sym (untouched bytes short lent P a))
       (refused-answered bytes (refused-check bytes short lent P a) W)
 
   module _ {n m C K : ℕ} {source : Node} (a : answer ≡ Read n m C source K) where
-    pub both-read : BothRunnable n m C (source .0) K (mapIn l starts′ heads′ costs′)
+    pub both-read : BothRunnable n m C (source .0) K (mapIn l starts′ heads′ costs′ holds′)
     both-read = record {
       one-level = map-read bytes short lent P a one tt (omega arith);
       two-level = map-read bytes short lent P a (two K) (subst (λ (k : ℕ). Allowed (two k)) (sym (segments-told P a)) (file-allowed (runnable bytes short lent P a))) (omega arith);
     }
 
-    pub map-answered : {distances′ parents′ roster′ work′ output output′ : List ℕ} {written : ℕ} → let l′ = planLists starts′ heads′ costs′ distances′ parents′ roster′ work′ in
-        BothRun m K (mapInputs n m C (source .0) (mapIn l starts′ heads′ costs′)) (mapIn l starts′ heads′ costs′) l′ output output′ written
+    pub map-answered : {distances′ parents′ roster′ work′ output output′ : List ℕ} {written : ℕ} → let l′ = planLists starts′ heads′ costs′ holds′ distances′ parents′ roster′ work′ in
+        BothRun m K (mapInputs n m C (source .0) (mapIn l starts′ heads′ costs′ holds′)) (mapIn l starts′ heads′ costs′ holds′) l′ output output′ written
         → PlanningPromised bytes l l′ output output′ written
     map-answered B =
         let E = rw (inputs-read bytes short lent P a, count-told P a, segments-told P a) at B in
@@ -63,6 +64,7 @@ module _ (bytes : List ℕ) (short : length bytes ≤ 65536) {l : PlanLists} (le
           starts-after = read-told P a .starts-after;
           heads-after = read-told P a .heads-after;
           costs-after = read-told P a .costs-after;
+          holds-after = read-told P a .holds-after;
           distances-after = E .distances-after;
           parents-after = E .parents-after;
           roster-after = E .roster-after;

@@ -2,7 +2,8 @@
 -- computed.
 use mathlib.Core.Path.{_≡_, refl, _∙_, ap, ap₂, sym}
 use mathlib.Core.List.{List, [], _∷_, _++_, map, map-append}
-use Rattle.theory.specs.Network.{linksFrom, network}
+use lib.ListN.{replicate}
+use Rattle.theory.specs.Network.{linksFrom, tailHold, network}
 use Rattle.theory.specs.Search.{label, remove, blank}
 use Rattle.theory.specs.Shape.{logFrom, ceilLog, oneLevelBuckets, twoLevelBuckets, oneLevel, twoLevel}
 use Rattle.theory.specs.Heap.{bucketFrom, heapLabel, heapRelax, heapRelaxAll, pick, rebound, boundsAfter, move, heapRemove, heapScan, heapFrom, boundsFrom, firstBounds, heapBlank, heapStart, heap}
@@ -42,7 +43,7 @@ numbers-hold = rows-given edges ∙ ap (map answer) edges-hold ∙ sym (rows-sai
 -- ---- the files
 
 files-hold : map givenFor files ≡ map said files
-unfolding givenFor said files stepsOf network linksFrom label remove blank logFrom ceilLog oneLevelBuckets twoLevelBuckets oneLevel twoLevel bucketFrom heapLabel heapRelax heapRelaxAll pick rebound boundsAfter move heapRemove heapScan heapFrom boundsFrom firstBounds heapBlank heapStart heap planText planningCheck bytesOf faultIf firstFault lentChecks digits numberFrom isField field fields decimalBy renderFields lineNumbers arcLine headerLine arcChecks arcsCheck headerChecks planCheck linesArcs keysBelow having groupsFrom startsFrom refusedText countsLine heapLine orNone nodeLine nodeLines acceptedText
+unfolding givenFor said files stepsOf network linksFrom tailHold label remove blank logFrom ceilLog oneLevelBuckets twoLevelBuckets oneLevel twoLevel bucketFrom heapLabel heapRelax heapRelaxAll pick rebound boundsAfter move heapRemove heapScan heapFrom boundsFrom firstBounds heapBlank heapStart heap planText planningCheck bytesOf faultIf firstFault lentChecks digits numberFrom isField field fields decimalBy renderFields lineNumbers arcLine headerLine arcChecks arcsCheck headerChecks planCheck linesArcs keysBelow having groupsFrom startsFrom refusedText countsLine heapLine orNone nodeLine nodeLines acceptedText
 files-hold = refl
 
 -- ---- the table
@@ -56,6 +57,6 @@ marked-hold =
 -- ---- the listing
 
 -- The map of the listing is that of its arcs, which a road file may tell in another order.
-pub listing-told : planRun (planOf (bytesOf listingFile)) ≡ inputs 5 9 0 (startsOf 5 listingArcs) (headsOf 5 listingArcs) (costsOf 5 listingArcs)
+pub listing-told : planRun (planOf (bytesOf listingFile)) ≡ inputs 5 9 0 (startsOf 5 listingArcs) (headsOf 5 listingArcs) (costsOf 5 listingArcs) (replicate 5 0)
 unfolding listingArcs bytesOf digits numberFrom isField field fields lineNumbers arcLine headerLine linesArcs keysBelow having groupsFrom startsFrom
 listing-told = refl

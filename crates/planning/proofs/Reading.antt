@@ -15,50 +15,51 @@ use Rattle.reader.specs.Checking.{planCheck}
 use Rattle.reader.specs.Plans.{planOf, planRun}
 use Rattle.reader.specs.Promise.{PlanPromised}
 use Rattle.reader.proofs.Runnable.{Runnable, read-runnable, runs-pass}
-use Rattle.reader.proofs.Told.{refused, refused-told, passed, nodes-told, starts-front, heads-front, costs-front, inputs-told}
+use Rattle.reader.proofs.Told.{refused, refused-told, passed, nodes-told, starts-front, heads-front, costs-front, holds-front, inputs-told}
 use Rattle.planning.specs.Planning.{planningCheck, PlanLists, planLists, planLengths, WordsLent, mapInputs, MapRunnable}
 
 -- The lists with a map in them.
-abbrev pub mapIn : PlanLists → (starts heads costs : List ℕ) → PlanLists
-mapIn l starts heads costs = planLists starts heads costs (l .distances) (l .parents) (l .roster) (l .work)
+abbrev pub mapIn : PlanLists → (starts heads costs holds : List ℕ) → PlanLists
+mapIn l starts heads costs holds = planLists starts heads costs holds (l .distances) (l .parents) (l .roster) (l .work)
 
 pub long-check : (bytes : List ℕ) → 65536 < length bytes → planningCheck bytes ≡ Fault 13 0
 unfolding planningCheck
 long-check bytes long = rw (lt-ltb 65536 (length bytes) long) refl
 
-module _ (bytes : List ℕ) (short : length bytes ≤ 65536) {l : PlanLists} (lent : WordsLent l) {starts′ heads′ costs′ : List ℕ} {answer : PlanAnswer}
-    (P : PlanPromised bytes (l .starts) (l .heads) (l .costs) starts′ heads′ costs′ answer) where
-  check-lent : planningCheck bytes ≡ planCheck bytes (length (l .starts)) (length (l .heads)) (length (l .costs))
+module _ (bytes : List ℕ) (short : length bytes ≤ 65536) {l : PlanLists} (lent : WordsLent l) {starts′ heads′ costs′ holds′ : List ℕ} {answer : PlanAnswer}
+    (P : PlanPromised bytes (l .starts) (l .heads) (l .costs) (l .holds) starts′ heads′ costs′ holds′ answer) where
+  check-lent : planningCheck bytes ≡ planCheck bytes (length (l .starts)) (length (l .heads)) (length (l .costs)) (length (l .holds))
   unfolding planningCheck
-  check-lent = rw (le-ltb 65536 (length bytes) short, lent .starts-words, lent .heads-words, lent .costs-words) refl
+  check-lent = rw (le-ltb 65536 (length bytes) short, lent .starts-words, lent .heads-words, lent .costs-words, lent .holds-words) refl
 
   module _ {number place : ℕ} (a : answer ≡ Refused number place) where
     pub refused-check : planningCheck bytes ≡ Fault number place
     refused-check = check-lent ∙ refused P a
 
-    pub untouched : mapIn l starts′ heads′ costs′ ≡ l
-    untouched = let told = refused-told P a in rw (told .starts-after, told .heads-after, told .costs-after) refl
+    pub untouched : mapIn l starts′ heads′ costs′ holds′ ≡ l
+    untouched = let told = refused-told P a in rw (told .starts-after, told .heads-after, told .costs-after, told .holds-after) refl
 
   module _ {n m C K : ℕ} {source : Node} (a : answer ≡ Read n m C source K) where
     pub passed-check : planningCheck bytes ≡ Passed
     passed-check = check-lent ∙ passed P a
 
-    pub runnable : Runnable (planOf bytes) (length (l .starts)) (length (l .heads)) (length (l .costs))
-    runnable = read-runnable bytes _ _ _ (passed P a)
+    pub runnable : Runnable (planOf bytes) (length (l .starts)) (length (l .heads)) (length (l .costs)) (length (l .holds))
+    runnable = read-runnable bytes _ _ _ _ (passed P a)
 
     -- What the runs are given is what the file tells.
-    pub inputs-read : mapInputs n m C (source .0) (mapIn l starts′ heads′ costs′) ≡ planRun (planOf bytes)
+    pub inputs-read : mapInputs n m C (source .0) (mapIn l starts′ heads′ costs′ holds′) ≡ planRun (planOf bytes)
     inputs-read = inputs-told P a runnable
 
     few : planOf bytes .header .nodes ≤ 512
     few = omega (arith, runnable .starts-fit, lent .starts-words)
 
     -- The run of every kind of heap that is allowed is accepted.
-    pub map-read : (L : Levels) → Allowed L → fixedWords L ≤ 384 → MapRunnable L n m C (source .0) (mapIn l starts′ heads′ costs′)
+    pub map-read : (L : Levels) → Allowed L → fixedWords L ≤ 384 → MapRunnable L n m C (source .0) (mapIn l starts′ heads′ costs′ holds′)
     map-read L allowed words = record {
       starts-fit = starts-front P a runnable .1;
       heads-fit = heads-front P a runnable .1;
       costs-fit = costs-front P a runnable .1;
+      holds-fit = holds-front P a runnable .1;
       nodes-fit = omega (arith, few, nodes-told P a);
       accepted =
           subst (λ (I : Inputs). firstFault (runChecks L I (planLengths l)) ≡ Passed) (sym inputs-read)

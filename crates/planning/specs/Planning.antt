@@ -16,7 +16,7 @@ use Rattle.checks.specs.Checks.{firstFault, runChecks, Lengths, lengthsFor}
 use Rattle.runs.specs.Promise.{RosterAfter}
 use Rattle.fields.specs.Writing.{Writes}
 use Rattle.reader.specs.Checking.{planCheck}
-use Rattle.reader.specs.Plans.{Plan, planOf, planStarts, planHeads, planCosts, planRun}
+use Rattle.reader.specs.Plans.{Plan, planOf, planStarts, planHeads, planCosts, planHolds, planRun}
 use Rattle.report.specs.Report.{refusedText, acceptedText}
 use Rattle.planning.specs.declared.RunNumbers.{RunNumbers}
 
@@ -27,9 +27,9 @@ abbrev pub mostBytes : ℕ
 mostBytes = 65536
 
 -- 13 before any line is read, then the reader's checks with the words that `plan` lends (document 01, "What a call returns" and
--- "Planning file").
+-- "Planning file"; document 02, paper 2).
 unfoldable pub planningCheck : (bytes : List ℕ) → Check
-planningCheck bytes = cond (ltb mostBytes (length bytes)) (Fault 13 0) (planCheck bytes 513 2048 2048)
+planningCheck bytes = cond (ltb mostBytes (length bytes)) (Fault 13 0) (planCheck bytes 513 2048 2048 512)
 
 -- The map of a planning file (document 01, "Planning file").
 abbrev pub planMap : Plan → Map
@@ -65,22 +65,24 @@ planText bytes = planAnswerText (planningCheck bytes) (planOf bytes)
 
 -- ---- the lists
 
--- The lists that `plan` lends (document 01, "Planning file").
+-- The lists that `plan` lends (document 01, "Planning file"; document 02, paper 2).
 pub record PlanLists : Type 0 where
   pub starts : List ℕ
   pub heads : List ℕ
   pub costs : List ℕ
+  pub holds : List ℕ
   pub distances : List ℕ
   pub parents : List ℕ
   pub roster : List ℕ
   pub work : List ℕ
 
 -- The lists from their parts (document 01, "Planning file").
-abbrev pub planLists : (starts heads costs distances parents roster work : List ℕ) → PlanLists
-planLists starts heads costs distances parents roster work = record {
+abbrev pub planLists : (starts heads costs holds distances parents roster work : List ℕ) → PlanLists
+planLists starts heads costs holds distances parents roster work = record {
   starts = starts;
   heads = heads;
   costs = costs;
+  holds = holds;
   distances = distances;
   parents = parents;
   roster = roster;
@@ -94,6 +96,7 @@ pub record Answered (check : Check) (plan : Plan) (l l′ : PlanLists) (output o
   pub starts-after : l′ .starts ≡ wordsAfter check (planStarts plan) (l .starts)
   pub heads-after : l′ .heads ≡ wordsAfter check (planHeads plan) (l .heads)
   pub costs-after : l′ .costs ≡ wordsAfter check (planCosts plan) (l .costs)
+  pub holds-after : l′ .holds ≡ wordsAfter check (planHolds plan) (l .holds)
   pub distances-after : l′ .distances ≡ wordsAfter check (planOneLevel plan .search .distances) (l .distances)
   pub parents-after : l′ .parents ≡ wordsAfter check (planOneLevel plan .search .parents) (l .parents)
   pub roster-after : RosterAfter check (planMap plan) (plan .header .source) (planTwoLevel plan) (l .roster) (l′ .roster)
@@ -106,11 +109,12 @@ PlanningPromised bytes l l′ output output′ written =
 
 -- ---- what the code goes by
 
--- The words that `plan` and `routes` lend of each list (document 01, "Planning file").
+-- The words that `plan` and `routes` lend of each list (document 01, "Planning file": 512 words for any list by node).
 pub record WordsLent (l : PlanLists) : Type 0 where
   pub starts-words : length (l .starts) ≡ 513
   pub heads-words : length (l .heads) ≡ 2048
   pub costs-words : length (l .costs) ≡ 2048
+  pub holds-words : length (l .holds) ≡ 512
   pub distances-words : length (l .distances) ≡ 512
   pub parents-words : length (l .parents) ≡ 512
   pub roster-words : length (l .roster) ≡ 512
@@ -144,7 +148,7 @@ runsText nodes arcs first second distances parents =
 
 -- What the runs of the map at the front of the lists are given: n nodes, m arcs, C and the source (document 01, "Planning file").
 abbrev pub mapInputs : (n m C source : ℕ) → PlanLists → Inputs
-mapInputs n m C source l = inputs n C source (take (n + 1) (l .starts)) (take m (l .heads)) (take m (l .costs))
+mapInputs n m C source l = inputs n C source (take (n + 1) (l .starts)) (take m (l .heads)) (take m (l .costs)) (take n (l .holds))
 
 -- How long the lists are that the runs fill (document 01, "What a call returns").
 abbrev pub planLengths : PlanLists → Lengths
@@ -155,6 +159,7 @@ pub record MapRunnable (L : Levels) (n m C source : ℕ) (l : PlanLists) : Type 
   pub starts-fit : n + 1 ≤ length (l .starts)
   pub heads-fit : m ≤ length (l .heads)
   pub costs-fit : m ≤ length (l .costs)
+  pub holds-fit : n ≤ length (l .holds)
   pub nodes-fit : n ≤ 512
   pub accepted : firstFault (runChecks L (mapInputs n m C source l) (planLengths l)) ≡ Passed
 

@@ -103,6 +103,7 @@ fn plan_map(
     starts: &[u32],
     heads: &[u32],
     costs: &[u32],
+    holds: &[u32],
     distances: &mut [u32],
     parents: &mut [u32],
     roster: &mut [u32],
@@ -110,12 +111,12 @@ fn plan_map(
     output: &mut [u8],
 ) -> usize
     requires { ⌜ BothRunnable nodes arcs ceiling (source .0) segments
-        (planLists (now starts) (now heads) (now costs) (now distances) (now parents) (now roster) (now work)) ⌝ }
+        (planLists (now starts) (now heads) (now costs) (now holds) (now distances) (now parents) (now roster) (now work)) ⌝ }
     requires { ⌜ length (now output) ≡ 33280 ⌝ }
     ensures { λ r. ⌜ BothRun arcs segments
-        (mapInputs nodes arcs ceiling (source .0) (planLists (now (starts .entry)) (now (heads .entry)) (now (costs .entry)) (now (distances .entry)) (now (parents .entry)) (now (roster .entry)) (now (work .entry))))
-        (planLists (now (starts .entry)) (now (heads .entry)) (now (costs .entry)) (now (distances .entry)) (now (parents .entry)) (now (roster .entry)) (now (work .entry)))
-        (planLists (now (starts .entry)) (now (heads .entry)) (now (costs .entry)) (now (distances .exit)) (now (parents .exit)) (now (roster .exit)) (now (work .exit)))
+        (mapInputs nodes arcs ceiling (source .0) (planLists (now (starts .entry)) (now (heads .entry)) (now (costs .entry)) (now (holds .entry)) (now (distances .entry)) (now (parents .entry)) (now (roster .entry)) (now (work .entry))))
+        (planLists (now (starts .entry)) (now (heads .entry)) (now (costs .entry)) (now (holds .entry)) (now (distances .entry)) (now (parents .entry)) (now (roster .entry)) (now (work .entry)))
+        (planLists (now (starts .entry)) (now (heads .entry)) (now (costs .entry)) (now (holds .entry)) (now (distances .exit)) (now (parents .exit)) (now (roster .exit)) (now (work .exit)))
         (now (output .entry)) (now (output .exit)) r ⌝ }
 {
     let n = nodes as usize;
@@ -123,6 +124,7 @@ fn plan_map(
     let map_starts = &starts[..n + 1];
     let map_heads = &heads[..m];
     let map_costs = &costs[..m];
+    let map_holds = &holds[..n];
     let one = runs::one_level(
         nodes,
         ceiling,
@@ -130,6 +132,7 @@ fn plan_map(
         map_starts,
         map_heads,
         map_costs,
+        map_holds,
         distances,
         parents,
         roster,
@@ -143,6 +146,7 @@ fn plan_map(
         map_starts,
         map_heads,
         map_costs,
+        map_holds,
         distances,
         parents,
         roster,
@@ -165,22 +169,23 @@ fn answer_in(
     starts: &mut [u32],
     heads: &mut [u32],
     costs: &mut [u32],
+    holds: &mut [u32],
     distances: &mut [u32],
     parents: &mut [u32],
     roster: &mut [u32],
     work: &mut [u32],
     output: &mut [u8],
 ) -> usize
-    requires { ⌜ PlanLends (planLists (now starts) (now heads) (now costs) (now distances) (now parents) (now roster) (now work)) (now output) ⌝ }
+    requires { ⌜ PlanLends (planLists (now starts) (now heads) (now costs) (now holds) (now distances) (now parents) (now roster) (now work)) (now output) ⌝ }
     ensures { λ r. ⌜ PlanningPromised (now (bytes .entry))
-        (planLists (now (starts .entry)) (now (heads .entry)) (now (costs .entry)) (now (distances .entry)) (now (parents .entry)) (now (roster .entry)) (now (work .entry)))
-        (planLists (now (starts .exit)) (now (heads .exit)) (now (costs .exit)) (now (distances .exit)) (now (parents .exit)) (now (roster .exit)) (now (work .exit)))
+        (planLists (now (starts .entry)) (now (heads .entry)) (now (costs .entry)) (now (holds .entry)) (now (distances .entry)) (now (parents .entry)) (now (roster .entry)) (now (work .entry)))
+        (planLists (now (starts .exit)) (now (heads .exit)) (now (costs .exit)) (now (holds .exit)) (now (distances .exit)) (now (parents .exit)) (now (roster .exit)) (now (work .exit)))
         (now (output .entry)) (now (output .exit)) r ⌝ }
 {
     if bytes.len() > 65536 {
         return report::write_refusal(output, 13, 0);
     }
-    match reader::read(bytes, starts, heads, costs) {
+    match reader::read(bytes, starts, heads, costs, holds) {
         PlanAnswer::Refused { number, place } => report::write_refusal(output, number, place),
         PlanAnswer::Read {
             nodes,
@@ -197,6 +202,7 @@ fn answer_in(
             starts,
             heads,
             costs,
+            holds,
             distances,
             parents,
             roster,
@@ -212,6 +218,7 @@ pub fn answer(
     starts: &mut [u32; 513],
     heads: &mut [u32; 2048],
     costs: &mut [u32; 2048],
+    holds: &mut [u32; 512],
     distances: &mut [u32; 512],
     parents: &mut [u32; 512],
     roster: &mut [u32; 512],
@@ -219,8 +226,8 @@ pub fn answer(
     output: &mut [u8; 33280],
 ) -> usize
     ensures { λ r. ⌜ PlanningPromised (now (bytes .entry))
-        (planLists (now (starts .entry)) (now (heads .entry)) (now (costs .entry)) (now (distances .entry)) (now (parents .entry)) (now (roster .entry)) (now (work .entry)))
-        (planLists (now (starts .exit)) (now (heads .exit)) (now (costs .exit)) (now (distances .exit)) (now (parents .exit)) (now (roster .exit)) (now (work .exit)))
+        (planLists (now (starts .entry)) (now (heads .entry)) (now (costs .entry)) (now (holds .entry)) (now (distances .entry)) (now (parents .entry)) (now (roster .entry)) (now (work .entry)))
+        (planLists (now (starts .exit)) (now (heads .exit)) (now (costs .exit)) (now (holds .exit)) (now (distances .exit)) (now (parents .exit)) (now (roster .exit)) (now (work .exit)))
         (now (output .entry)) (now (output .exit)) r ⌝ }
 {
     answer_in(
@@ -228,6 +235,7 @@ pub fn answer(
         starts,
         heads,
         costs,
+        holds,
         distances,
         parents,
         roster,

@@ -3,7 +3,7 @@ use Prim.Native.Nat.{ℕ}
 use native.Mathlib.Omega.{arith}
 use mathlib.Core.Path.{_≡_, refl, _∙_, ap, ap₂}
 use mathlib.Core.List.{List, [], _∷_, _++_}
-use lib.ListN.{length, drop}
+use lib.ListN.{length, drop, replicate}
 use lib.Seq.{drop-append-seam}
 use Rattle.theory.specs.Runs.{inputs}
 use Rattle.fields.specs.Fields.{comma, renderLine}
@@ -56,8 +56,8 @@ module _ (n C source K : ℕ) (arcs : List PlanArc) where
   told = numbered n arcs
 
   pub grouped-rendered : FitFields (n ∷ length told ∷ C ∷ source ∷ K ∷ []) → FitArcs told
-      → planRun (planOf (renderPlan n (length told) C source K told)) ≡ inputs n C source (startsOf n arcs) (headsOf n arcs) (costsOf n arcs)
+      → planRun (planOf (renderPlan n (length told) C source K told)) ≡ inputs n C source (startsOf n arcs) (headsOf n arcs) (costsOf n arcs) (replicate n 0)
   grouped-rendered fit fits =
-      ap₂ (λ (header : Header) (arcs : List PlanArc). planRun (record { header = header; arcs = arcs })) (ap headerNumbers (header-rendered n C source K told fit))
-      (arcs-rendered n C source K told fit fits)
-      ∙ same-map n C source arcs
+      ap₂ (λ (header : Header) (arcs : List PlanArc). planRun (record { header = header; arcs = arcs; holds = replicate (header .nodes) 0 }))
+      (ap headerNumbers (header-rendered n C source K told fit)) (arcs-rendered n C source K told fit fits)
+      ∙ same-map n C source arcs (replicate n 0)

@@ -19,7 +19,7 @@ use Rattle.reader.specs.Plans.{headerNumbers, linesArcs, Plan, planUnder
 use Rattle.reader.proofs.Shown.{arcs-shown}
 
 -- what a file tells and the words of the lists lent for it, with which both runs can be made
-pub record Runnable (plan : Plan) (starts heads costs : ℕ) : Type 0 where
+pub record Runnable (plan : Plan) (starts heads costs holds : ℕ) : Type 0 where
   pub valid : ValidInputs (planRun plan)
   pub heads-count : length (planHeads plan) ≡ plan .header .count
   pub costs-count : length (planCosts plan) ≡ plan .header .count
@@ -28,15 +28,16 @@ pub record Runnable (plan : Plan) (starts heads costs : ℕ) : Type 0 where
   pub starts-fit : plan .header .nodes + 1 ≤ starts
   pub heads-fit : plan .header .count ≤ heads
   pub costs-fit : plan .header .count ≤ costs
+  pub holds-fit : plan .header .nodes ≤ holds
 
 -- ---- the checks of a file
 
-module _ (bytes : List ℕ) (starts heads costs : ℕ) where
+module _ (bytes : List ℕ) (starts heads costs holds : ℕ) where
   header-runnable : (n m C source K taken : ℕ)
-      → AllPass (headerChecks n m C source K starts heads costs ++ (arcsCheck n C m 0 0 (drop taken bytes) ∷ []))
-      → Runnable (planUnder (headerNumbers (HeaderRead n m C source K taken)) bytes) starts heads costs
+      → AllPass (headerChecks n m C source K starts heads costs holds ++ (arcsCheck n C m 0 0 (drop taken bytes) ∷ []))
+      → Runnable (planUnder (headerNumbers (HeaderRead n m C source K taken)) bytes) starts heads costs holds
   unfolding headerChecks lentChecks
-  header-runnable n m C source K taken (more by-1 (more by-4 (more by-2 (more by-3 (more by-9 (more first (more second (more third (more arcs none))))))))) =
+  header-runnable n m C source K taken (more by-1 (more by-4 (more by-2 (more by-3 (more by-9 (more first (more second (more third (more fourth (more arcs none)))))))))) =
       let nodes = passed-range 1 n 1 4096 by-1 in
       let segments = passed-range 9 K 2 64 by-9 in
       let read = linesArcs m (drop taken bytes) in
@@ -51,21 +52,22 @@ module _ (bytes : List ℕ) (starts heads costs : ℕ) where
         starts-fit = passed-lent 0 starts (n + 1) first;
         heads-fit = passed-lent 1 heads m second;
         costs-fit = passed-lent 2 costs m third;
+        holds-fit = passed-lent 3 holds n fourth;
       }
 
-  line-runnable : (line : HeaderLine) → headerLineCheck line bytes starts heads costs ≡ Passed
-      → Runnable (planUnder (headerNumbers line) bytes) starts heads costs
+  line-runnable : (line : HeaderLine) → headerLineCheck line bytes starts heads costs holds ≡ Passed
+      → Runnable (planUnder (headerNumbers line) bytes) starts heads costs holds
   line-runnable NoHeader e = absurd (let z : _≡_ {A = ℕ} 0 1 = cc in omega arith)
   line-runnable (HeaderRead n m C source K taken) e = header-runnable n m C source K taken (passed-all _ e)
 
-  pub read-runnable : planCheck bytes starts heads costs ≡ Passed → Runnable (planOf bytes) starts heads costs
+  pub read-runnable : planCheck bytes starts heads costs holds ≡ Passed → Runnable (planOf bytes) starts heads costs holds
   unfolding planCheck
   read-runnable e = line-runnable (headerLine bytes) e
 
 -- ---- the checks of the runs
 
 -- no run on the file's map is refused, where the lists lent to it are long enough; of two levels with the file's K
-module _ {plan : Plan} {starts heads costs : ℕ} (R : Runnable plan starts heads costs) where
+module _ {plan : Plan} {starts heads costs holds : ℕ} (R : Runnable plan starts heads costs holds) where
   pub runs-pass : (L : Levels) → Allowed L → (room : Lengths) → plan .header .nodes ≤ room .distances → plan .header .nodes ≤ room .parents
       → plan .header .nodes ≤ room .roster → workWords L (plan .header .nodes) ≤ room .work
       → firstFault (runChecks L (planRun plan) room) ≡ Passed

@@ -15,7 +15,7 @@ use Rattle.theory.specs.Runs.{inputs}
 use Rattle.theory.proofs.Cases.{differ}
 use Rattle.reader.specs.declared.PlanAnswer.{PlanAnswer}
 use Rattle.reader.specs.declared.PlanAnswer.the-variants.{Read, Refused}
-use Rattle.reader.specs.Plans.{Header, Plan, planStarts, planHeads, planCosts, planRun}
+use Rattle.reader.specs.Plans.{Header, Plan, planStarts, planHeads, planCosts, planHolds, planRun}
 use Rattle.reader.specs.Promise.{PlanNumbers, planNumbers, planNumbersOf, wasRead, PlanAnswered}
 use Rattle.reader.proofs.Runnable.{Runnable}
 
@@ -37,10 +37,10 @@ front filled words k e l =
     let rest = drop (length filled) words in
     (ap (take k) e ∙ take-at filled rest k l, omega (arith, ap length e, length-append filled rest, l))
 
-module _ {check : Check} {plan : Plan} {starts heads costs starts′ heads′ costs′ : List ℕ} {answer : PlanAnswer}
-    (P : PlanAnswered check plan starts heads costs starts′ heads′ costs′ answer) where
+module _ {check : Check} {plan : Plan} {starts heads costs holds starts′ heads′ costs′ holds′ : List ℕ} {answer : PlanAnswer}
+    (P : PlanAnswered check plan starts heads costs holds starts′ heads′ costs′ holds′ answer) where
   abbrev Told : Check → Type 0
-  Told k = PlanAnswered k plan starts heads costs starts′ heads′ costs′ answer
+  Told k = PlanAnswered k plan starts heads costs holds starts′ heads′ costs′ holds′ answer
 
   -- ---- a file that is refused
 
@@ -78,7 +78,7 @@ module _ {check : Check} {plan : Plan} {starts heads costs starts′ heads′ co
     pub segments-told : K ≡ plan .header .segments
     segments-told = ap (λ (k : PlanNumbers). k .segments) numbers
 
-    module _ (R : Runnable plan (length starts) (length heads) (length costs)) where
+    module _ (R : Runnable plan (length starts) (length heads) (length costs) (length holds)) where
       pub starts-front : (take (n + 1) starts′ ≡ planStarts plan) × (n + 1 ≤ length starts′)
       starts-front =
           front (planStarts plan) starts (n + 1) (read-told .starts-after)
@@ -90,6 +90,9 @@ module _ {check : Check} {plan : Plan} {starts heads costs starts′ heads′ co
       pub costs-front : (take m costs′ ≡ planCosts plan) × (m ≤ length costs′)
       costs-front = front (planCosts plan) costs m (read-told .costs-after) (R .costs-count ∙ sym count-told)
 
+      pub holds-front : (take n holds′ ≡ planHolds plan) × (n ≤ length holds′)
+      holds-front = front (planHolds plan) holds n (read-told .holds-after) (R .valid .sound .holds-length ∙ sym nodes-told)
+
       -- what a run is given is what the file tells
-      pub inputs-told : inputs n C (source .0) (take (n + 1) starts′) (take m heads′) (take m costs′) ≡ planRun plan
-      inputs-told = rw (starts-front .0, heads-front .0, costs-front .0, nodes-told, ceiling-told, source-told) refl
+      pub inputs-told : inputs n C (source .0) (take (n + 1) starts′) (take m heads′) (take m costs′) (take n holds′) ≡ planRun plan
+      inputs-told = rw (starts-front .0, heads-front .0, costs-front .0, holds-front .0, nodes-told, ceiling-told, source-told) refl

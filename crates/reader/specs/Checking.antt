@@ -7,7 +7,7 @@ use lib.ListN.{length, drop}
 use Rattle.model.specs.declared.Check.{Check}
 use Rattle.model.specs.declared.Check.the-variants.{Fault}
 use Rattle.check_numbers.specs.Numbers.{faultIf, nodesCheck, headCountCheck, ceilingCheck, sourceCheck, segmentsCheck}
-use Rattle.checks.specs.Checks.{firstFault, mapLists, lentChecks}
+use Rattle.checks.specs.Checks.{firstFault, fileLists, lentChecks}
 use Rattle.reader.specs.declared.lines.ArcLine.{ArcLine}
 use Rattle.reader.specs.declared.lines.ArcLine.the-variants.{NoArc, ArcRead}
 use Rattle.reader.specs.declared.lines.HeaderLine.{HeaderLine}
@@ -52,23 +52,23 @@ arcsCheck n C (suc left) i before bytes =
     (λ tail head cost taken.
     firstFault (arcChecks n C i before tail head cost ++ (arcsCheck n C left (suc i) tail (drop taken bytes) ∷ [])))
 
--- Line 1 by 1, 4, 2, 3, 9, 10 (document 01, "What a call returns").
-unfoldable pub headerChecks : (n m C source K starts heads costs : ℕ) → List Check
-headerChecks n m C source K starts heads costs =
+-- Line 1 by 1, 4, 2, 3, 9, 10 (document 01, "What a call returns"; document 02, paper 2).
+unfoldable pub headerChecks : (n m C source K starts heads costs holds : ℕ) → List Check
+headerChecks n m C source K starts heads costs holds =
     nodesCheck n
     ∷ headCountCheck m
     ∷ ceilingCheck C
     ∷ sourceCheck n source
     ∷ segmentsCheck K
-    ∷ lentChecks 0 (mapLists n m starts heads costs)
+    ∷ lentChecks 0 (fileLists n m starts heads costs holds)
 
 -- A planning file, and the words of the lists lent for it: line 1 by 11 and its other checks, then the arcs (document 01, "What a
 -- call returns").
-abbrev pub headerLineCheck : HeaderLine → (bytes : List ℕ) → (starts heads costs : ℕ) → Check
-headerLineCheck NoHeader bytes starts heads costs = lineFault 1
-headerLineCheck (HeaderRead n m C source K taken) bytes starts heads costs =
-    firstFault (headerChecks n m C source K starts heads costs ++ (arcsCheck n C m 0 0 (drop taken bytes) ∷ []))
+abbrev pub headerLineCheck : HeaderLine → (bytes : List ℕ) → (starts heads costs holds : ℕ) → Check
+headerLineCheck NoHeader bytes starts heads costs holds = lineFault 1
+headerLineCheck (HeaderRead n m C source K taken) bytes starts heads costs holds =
+    firstFault (headerChecks n m C source K starts heads costs holds ++ (arcsCheck n C m 0 0 (drop taken bytes) ∷ []))
 
 -- The checks of a planning file (document 01, "What a call returns").
-unfoldable pub planCheck : List ℕ → (starts heads costs : ℕ) → Check
-planCheck bytes starts heads costs = headerLineCheck (headerLine bytes) bytes starts heads costs
+unfoldable pub planCheck : List ℕ → (starts heads costs holds : ℕ) → Check
+planCheck bytes starts heads costs holds = headerLineCheck (headerLine bytes) bytes starts heads costs holds

@@ -1,7 +1,7 @@
 -- The map of a planning file (document 01, "Planning file" and "What the planner holds and leaves out").
 use Prim.Native.Nat.{ℕ, zero, suc}
 use mathlib.Core.List.{List, [], _∷_}
-use lib.ListN.{drop}
+use lib.ListN.{drop, replicate}
 use Rattle.reader.specs.declared.lines.ArcLine.{ArcLine}
 use Rattle.reader.specs.declared.lines.ArcLine.the-variants.{NoArc, ArcRead}
 use Rattle.reader.specs.declared.lines.HeaderLine.{HeaderLine}
@@ -43,14 +43,21 @@ unfoldable pub linesArcs : (left : ℕ) → List ℕ → List PlanArc
 linesArcs zero bytes = []
 linesArcs (suc left) bytes = arcAndBehind (arcLine bytes) (λ taken. linesArcs left (drop taken bytes))
 
--- What a planning file tells: line 1's numbers, and its arcs in the order of its lines (document 01, "Planning file").
+-- What a planning file tells: line 1's numbers, its arcs in the order of its lines, and a hold for each node (document 01, "Planning
+-- file"; document 02, paper 2).
 pub record Plan : Type 0 where
   pub header : Header
   pub arcs : List PlanArc
+  pub holds : List ℕ
 
--- What a file tells whose line 1 has these numbers: behind the bytes that it takes, as many arcs as it says (document 01, "Planning file").
+-- What a file tells whose line 1 has these numbers: behind the bytes that it takes, as many arcs as it says (document 01, "Planning
+-- file"). Five fields mean holds of 0 (document 02, paper 2).
 abbrev pub planUnder : Header → List ℕ → Plan
-planUnder header bytes = record { header = header; arcs = linesArcs (header .count) (drop (header .taken) bytes) }
+planUnder header bytes = record {
+  header = header;
+  arcs = linesArcs (header .count) (drop (header .taken) bytes);
+  holds = replicate (header .nodes) 0;
+}
 
 -- What the bytes of a file tell (document 01, "Planning file").
 abbrev pub planOf : List ℕ → Plan
@@ -70,6 +77,11 @@ planHeads plan = headsOf (plan .header .nodes) (plan .arcs)
 abbrev pub planCosts : Plan → List ℕ
 planCosts plan = costsOf (plan .header .nodes) (plan .arcs)
 
--- What a run on a planning file is given (document 01, "Planning file").
+-- The holds of a planning file (document 02, paper 2).
+abbrev pub planHolds : Plan → List ℕ
+planHolds plan = plan .holds
+
+-- What a run on a planning file is given (document 01, "Planning file"; document 02, paper 2).
 abbrev pub planRun : Plan → Inputs
-planRun plan = inputs (plan .header .nodes) (plan .header .ceiling) (plan .header .source) (planStarts plan) (planHeads plan) (planCosts plan)
+planRun plan =
+    inputs (plan .header .nodes) (plan .header .ceiling) (plan .header .source) (planStarts plan) (planHeads plan) (planCosts plan) (planHolds plan)

@@ -10,7 +10,7 @@ use Rattle.model.specs.Answers.{wordsAfter, allPassed}
 use Rattle.reader.specs.declared.PlanAnswer.{PlanAnswer}
 use Rattle.reader.specs.declared.PlanAnswer.the-variants.{Read, Refused}
 use Rattle.reader.specs.Checking.{planCheck}
-use Rattle.reader.specs.Plans.{Header, Plan, planOf, planStarts, planHeads, planCosts}
+use Rattle.reader.specs.Plans.{Header, Plan, planOf, planStarts, planHeads, planCosts, planHolds}
 
 -- What the reader returns: number and place, then line 1's five numbers (document 01, "Planning file" and "What a call returns").
 pub record PlanNumbers : Type 0 where
@@ -54,15 +54,18 @@ planNumbers Passed header = readNumbers (header .nodes) (header .count) (header 
 planNumbers (Fault number place) header = unreadNumbers number place
 
 -- The reader on a file that tells `plan` and whose checks in order come to `check`: its answer, and what each lent list holds afterwards
--- (document 01, "Planning file" and "What a call returns").
-pub record PlanAnswered (check : Check) (plan : Plan) (starts heads costs starts′ heads′ costs′ : List ℕ) (answer : PlanAnswer) : Type 0 where
-  pub read : wasRead answer ≡ allPassed check
-  pub numbers : planNumbersOf answer ≡ planNumbers check (plan .header)
-  pub starts-after : starts′ ≡ wordsAfter check (planStarts plan) starts
-  pub heads-after : heads′ ≡ wordsAfter check (planHeads plan) heads
-  pub costs-after : costs′ ≡ wordsAfter check (planCosts plan) costs
+-- (document 01, "Planning file" and "What a call returns"; document 02, paper 2).
+pub record PlanAnswered (check : Check) (plan : Plan) (starts heads costs holds starts′ heads′ costs′ holds′ : List ℕ) (answer : PlanAnswer) : Type 0
+  where
+    pub read : wasRead answer ≡ allPassed check
+    pub numbers : planNumbersOf answer ≡ planNumbers check (plan .header)
+    pub starts-after : starts′ ≡ wordsAfter check (planStarts plan) starts
+    pub heads-after : heads′ ≡ wordsAfter check (planHeads plan) heads
+    pub costs-after : costs′ ≡ wordsAfter check (planCosts plan) costs
+    pub holds-after : holds′ ≡ wordsAfter check (planHolds plan) holds
 
 -- The reader on every file (document 01, "Planning file" and "What a call returns").
-abbrev pub PlanPromised : (bytes starts heads costs starts′ heads′ costs′ : List ℕ) → PlanAnswer → Type 0
-PlanPromised bytes starts heads costs starts′ heads′ costs′ answer =
-    PlanAnswered (planCheck bytes (length starts) (length heads) (length costs)) (planOf bytes) starts heads costs starts′ heads′ costs′ answer
+abbrev pub PlanPromised : (bytes starts heads costs holds starts′ heads′ costs′ holds′ : List ℕ) → PlanAnswer → Type 0
+PlanPromised bytes starts heads costs holds starts′ heads′ costs′ holds′ answer =
+    PlanAnswered (planCheck bytes (length starts) (length heads) (length costs) (length holds)) (planOf bytes)
+    starts heads costs holds starts′ heads′ costs′ holds′ answer

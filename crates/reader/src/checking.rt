@@ -1,8 +1,8 @@
 // The first pass over a planning file: every check in order, and no word written (document 01, "What a call returns").
 use crate::lines::ArcLine;
 use crate::lines::arc_line_at;
+use checks::file_lists_check;
 use checks::first_of;
-use checks::map_lists_check;
 use cursor::left_over_at;
 use model::Check;
 use model::Node;
@@ -27,12 +27,23 @@ pub fn plan_check(
     starts: usize,
     heads: usize,
     costs: usize,
+    holds: usize,
 ) -> Check
     requires { ⌜ at ≤ length (now bytes) ⌝ }
-    ensures { λ r. ⌜ r ≡ firstFault (headerChecks n arcs ceiling (source .0) segments starts heads costs
+    ensures { λ r. ⌜ r ≡ firstFault (headerChecks n arcs ceiling (source .0) segments starts heads costs holds
         ++ (arcsCheck n ceiling arcs 0 0 (drop at (now (bytes .entry))) ∷ [])) ⌝ }
 {
-    let header = header_check(n, arcs, ceiling, source, segments, starts, heads, costs);
+    let header = header_check(
+        n,
+        arcs,
+        ceiling,
+        source,
+        segments,
+        starts,
+        heads,
+        costs,
+        holds,
+    );
     let Check::Passed = header else {
         return header;
     };
@@ -48,15 +59,16 @@ fn header_check(
     starts: usize,
     heads: usize,
     costs: usize,
+    holds: usize,
 ) -> Check
-    ensures { λ r. ⌜ r ≡ firstFault (headerChecks n arcs ceiling (source .0) segments starts heads costs) ⌝ }
+    ensures { λ r. ⌜ r ≡ firstFault (headerChecks n arcs ceiling (source .0) segments starts heads costs holds) ⌝ }
 {
     let nodes = check_numbers::nodes_check(n);
     let count = check_numbers::head_count_check(arcs as usize);
     let limit = check_numbers::ceiling_check(ceiling);
     let from = check_numbers::source_check(n, source);
     let parts = check_numbers::segments_check(segments);
-    let lists = map_lists_check(n, arcs, starts, heads, costs);
+    let lists = file_lists_check(n, arcs, starts, heads, costs, holds);
     let found = first_of(nodes, count);
     let found = first_of(found, limit);
     let found = first_of(found, from);

@@ -47,7 +47,8 @@ pub fn fill(
     fill_between(starts, next, n as usize + 1, arcs);
 }
 
-fn fill_between(words: &mut [u32], from: usize, to: usize, word: u32)
+// Also the holds of a file that tells none (document 02, paper 2: holds of 0).
+pub fn fill_between(words: &mut [u32], from: usize, to: usize, word: u32)
     requires { ⌜ (from ≤ to) × (to ≤ length (now words)) ⌝ }
     ensures { λ _. ⌜ now (words .exit) ≡ between (now (words .entry)) from to word ⌝ }
 {

@@ -24,9 +24,15 @@ pub enum PlanAnswer {
 }
 
 // Nothing is written before every check has passed.
-pub fn read(bytes: &[u8], starts: &mut [u32], heads: &mut [u32], costs: &mut [u32]) -> PlanAnswer
-    ensures { λ r. ⌜ PlanPromised (now (bytes .entry)) (now (starts .entry)) (now (heads .entry)) (now (costs .entry))
-        (now (starts .exit)) (now (heads .exit)) (now (costs .exit)) r ⌝ }
+pub fn read(
+    bytes: &[u8],
+    starts: &mut [u32],
+    heads: &mut [u32],
+    costs: &mut [u32],
+    holds: &mut [u32],
+) -> PlanAnswer
+    ensures { λ r. ⌜ PlanPromised (now (bytes .entry)) (now (starts .entry)) (now (heads .entry)) (now (costs .entry)) (now (holds .entry))
+        (now (starts .exit)) (now (heads .exit)) (now (costs .exit)) (now (holds .exit)) r ⌝ }
 {
     let HeaderLine::HeaderRead {
         nodes,
@@ -54,11 +60,13 @@ pub fn read(bytes: &[u8], starts: &mut [u32], heads: &mut [u32], costs: &mut [u3
         starts.len(),
         heads.len(),
         costs.len(),
+        holds.len(),
     );
     if let Check::Fault { number, place } = check {
         return PlanAnswer::Refused { number, place };
     }
     filling::fill(bytes, taken, nodes, arcs, starts, heads, costs);
+    filling::fill_between(holds, 0, nodes as usize, 0);
     PlanAnswer::Read {
         nodes,
         arcs,

@@ -39,10 +39,10 @@ pub record RouteHanded (n source : ℕ) (starts heads parents : List ℕ) (desti
   pub promised : RoutePromised n source starts heads parents destination answer words words′
   pub numbers : numbers′ ≡ routeWords (routeNumbersOf answer)
 
--- The reader: its promise, and the numbers of its answer (document 01, "Planning file" and "What a call returns").
-pub record ReadHanded (bytes starts heads costs starts′ heads′ costs′ numbers′ : List ℕ) : Type 0 where
+-- The reader: its promise, and the numbers of its answer (document 01, "Planning file" and "What a call returns"; document 02, paper 2).
+pub record ReadHanded (bytes starts heads costs holds starts′ heads′ costs′ holds′ numbers′ : List ℕ) : Type 0 where
   pub answer : PlanAnswer
-  pub promised : PlanPromised bytes starts heads costs starts′ heads′ costs′ answer
+  pub promised : PlanPromised bytes starts heads costs holds starts′ heads′ costs′ holds′ answer
   pub numbers : numbers′ ≡ readWords (planNumbersOf answer)
 
 -- The reader of road files: its promise, and the numbers of its answer (document 02, paper 1).

@@ -31,13 +31,14 @@ pub extern "C" fn roosternow_one_level(
     starts: &[u32],
     heads: &[u32],
     costs: &[u32],
+    holds: &[u32],
     distances: &mut [u32],
     parents: &mut [u32],
     roster: &mut [u32],
     work: &mut [u32],
     numbers: &mut [u64; 7],
 )
-    ensures { λ _. ⌜ OneLevelHanded (inputs n ceiling source (now (starts .entry)) (now (heads .entry)) (now (costs .entry)))
+    ensures { λ _. ⌜ OneLevelHanded (inputs n ceiling source (now (starts .entry)) (now (heads .entry)) (now (costs .entry)) (now (holds .entry)))
         (lent (now (distances .entry)) (now (parents .entry)) (now (roster .entry)) (now (work .entry)))
         (lent (now (distances .exit)) (now (parents .exit)) (now (roster .exit)) (now (work .exit))) (now (numbers .exit)) ⌝ }
 {
@@ -48,6 +49,7 @@ pub extern "C" fn roosternow_one_level(
         starts,
         heads,
         costs,
+        holds,
         distances,
         parents,
         roster,
@@ -66,13 +68,14 @@ pub extern "C" fn roosternow_two_level(
     starts: &[u32],
     heads: &[u32],
     costs: &[u32],
+    holds: &[u32],
     distances: &mut [u32],
     parents: &mut [u32],
     roster: &mut [u32],
     work: &mut [u32],
     numbers: &mut [u64; 7],
 )
-    ensures { λ _. ⌜ TwoLevelHanded segments (inputs n ceiling source (now (starts .entry)) (now (heads .entry)) (now (costs .entry)))
+    ensures { λ _. ⌜ TwoLevelHanded segments (inputs n ceiling source (now (starts .entry)) (now (heads .entry)) (now (costs .entry)) (now (holds .entry)))
         (lent (now (distances .entry)) (now (parents .entry)) (now (roster .entry)) (now (work .entry)))
         (lent (now (distances .exit)) (now (parents .exit)) (now (roster .exit)) (now (work .exit))) (now (numbers .exit)) ⌝ }
 {
@@ -84,6 +87,7 @@ pub extern "C" fn roosternow_two_level(
         starts,
         heads,
         costs,
+        holds,
         distances,
         parents,
         roster,
@@ -126,12 +130,13 @@ pub extern "C" fn roosternow_read(
     starts: &mut [u32],
     heads: &mut [u32],
     costs: &mut [u32],
+    holds: &mut [u32],
     numbers: &mut [u64; 7],
 )
-    ensures { λ _. ⌜ ReadHanded (now (bytes .entry)) (now (starts .entry)) (now (heads .entry)) (now (costs .entry))
-        (now (starts .exit)) (now (heads .exit)) (now (costs .exit)) (now (numbers .exit)) ⌝ }
+    ensures { λ _. ⌜ ReadHanded (now (bytes .entry)) (now (starts .entry)) (now (heads .entry)) (now (costs .entry)) (now (holds .entry))
+        (now (starts .exit)) (now (heads .exit)) (now (costs .exit)) (now (holds .exit)) (now (numbers .exit)) ⌝ }
 {
-    let answer = reader::read(bytes, starts, heads, costs);
+    let answer = reader::read(bytes, starts, heads, costs, holds);
     *numbers = read_words(answer);
 }
 

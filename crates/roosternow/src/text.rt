@@ -8,6 +8,7 @@ pub extern "C" fn roosternow_answer(
     starts: &mut [u32; 513],
     heads: &mut [u32; 2048],
     costs: &mut [u32; 2048],
+    holds: &mut [u32; 512],
     distances: &mut [u32; 512],
     parents: &mut [u32; 512],
     roster: &mut [u32; 512],
@@ -15,8 +16,8 @@ pub extern "C" fn roosternow_answer(
     output: &mut [u8; 33280],
 ) -> usize
     ensures { λ r. ⌜ PlanningPromised (now (bytes .entry))
-        (planLists (now (starts .entry)) (now (heads .entry)) (now (costs .entry)) (now (distances .entry)) (now (parents .entry)) (now (roster .entry)) (now (work .entry)))
-        (planLists (now (starts .exit)) (now (heads .exit)) (now (costs .exit)) (now (distances .exit)) (now (parents .exit)) (now (roster .exit)) (now (work .exit)))
+        (planLists (now (starts .entry)) (now (heads .entry)) (now (costs .entry)) (now (holds .entry)) (now (distances .entry)) (now (parents .entry)) (now (roster .entry)) (now (work .entry)))
+        (planLists (now (starts .exit)) (now (heads .exit)) (now (costs .exit)) (now (holds .exit)) (now (distances .exit)) (now (parents .exit)) (now (roster .exit)) (now (work .exit)))
         (now (output .entry)) (now (output .exit)) r ⌝ }
 {
     planning::answer(
@@ -24,6 +25,7 @@ pub extern "C" fn roosternow_answer(
         starts,
         heads,
         costs,
+        holds,
         distances,
         parents,
         roster,

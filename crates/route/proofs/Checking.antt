@@ -40,6 +40,7 @@ module _ (n source : ℕ) (starts heads : List ℕ) where
           from = from;
           few = passed-heads (length heads) few;
           paired = length-replicate (length heads) 0;
+          held = length-replicate n 0;
           count = count;
           words = words;
           below = below;

@@ -29,7 +29,7 @@ use Rattle.route.specs.Routes.{routeWalk, tableSizeChecks, tableChecks, 
 
 -- ---- the checks of a route over lists in order
 
-sound-table : {n source : ℕ} {starts heads costs : List ℕ} → Sound (mapOf n starts heads costs) source → (parents : ℕ) → n ≤ parents
+sound-table : {n source : ℕ} {starts heads costs holds : List ℕ} → Sound (mapOf n starts heads costs holds) source → (parents : ℕ) → n ≤ parents
     → firstFault (tableChecks n source starts heads parents) ≡ Passed
 unfolding tableSizeChecks tableChecks faultIf
 sound-table {n} {heads = heads} sound parents long =
@@ -39,9 +39,9 @@ sound-table {n} {heads = heads} sound parents long =
 
 -- ---- a destination that the parents spell
 
-module _ {n source : ℕ} {starts heads costs : List ℕ} (sound : Sound (mapOf n starts heads costs) source) (parents : List ℕ) (long : n ≤ length parents) where
+module _ {n source : ℕ} {starts heads costs holds : List ℕ} (sound : Sound (mapOf n starts heads costs holds) source) (parents : List ℕ) (long : n ≤ length parents) where
   abbrev M : Map
-  M = mapOf n starts heads costs
+  M = mapOf n starts heads costs holds
 
   -- A node that is spelled and is not the source has an arc for its parent.
   spelled-parent : {v : ℕ} {route : List ℕ} → SpelledRoute M source parents v route → v ≢ source → parentOf parents v ≢ maps.none
@@ -79,10 +79,10 @@ module _ {n source : ℕ} {starts heads costs : List ℕ} (sound : Sound (mapOf 
 
 -- ---- the parents of a run
 
-module _ {n source : ℕ} {starts heads costs : List ℕ} (sound : Sound (mapOf n starts heads costs) source) {distances parents : List ℕ}
-    (cheapest : CheapestRoutes (mapOf n starts heads costs) source distances parents) where
-  pub cheapest-served : (distances′ parents′ : List ℕ) (destination : ℕ) → Reached (mapOf n starts heads costs) source destination
-      → Served (mapOf n starts heads costs) source (distances ++ distances′) (parents ++ parents′) destination
+module _ {n source : ℕ} {starts heads costs holds : List ℕ} (sound : Sound (mapOf n starts heads costs holds) source) {distances parents : List ℕ}
+    (cheapest : CheapestRoutes (mapOf n starts heads costs holds) source distances parents) where
+  pub cheapest-served : (distances′ parents′ : List ℕ) (destination : ℕ) → Reached (mapOf n starts heads costs holds) source destination
+      → Served (mapOf n starts heads costs holds) source (distances ++ distances′) (parents ++ parents′) destination
   cheapest-served distances′ parents′ destination reached =
       let node = route-node sound (reached .1) (sound .source-node) in
       let finite : distanceOf distances destination ≢ maps.none = λ e. cheapest .unreached destination node .0 e reached in

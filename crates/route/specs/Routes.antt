@@ -92,7 +92,8 @@ RoutePromised n source starts heads parents destination answer words words′ =
 -- ---- routes of a run
 
 -- The route to a destination that a run has reached, by the parents and distances that it gave back: it is a route of the map, it costs
--- the distance, its nodes are those found, and it is not refused where the list has room for them (document 01, "Routes").
+-- the distance, its nodes are those found, and it is not refused where the list has room for them (document 01, "Routes"; document 02,
+-- paper 2).
 pub record Served (M : Map) (source : ℕ) (distances parents : List ℕ) (destination : ℕ) : Type 0 where
   pub route : List ℕ
   pub is-route : Route M source route destination

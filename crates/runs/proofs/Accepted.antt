@@ -81,7 +81,7 @@ module _ {L : Levels} {I : Inputs} {B K needed : ℕ} {sizes : List ℕ} (l : Le
   pub built-slots : (B - 1) * K ≤ 300
   built-slots = rw (built .buckets-are, built .segments-are) (slots-few (built .ready))
 
-  pub built-runs : SomeRunsOn (layoutOf (I .map .nodes) B K ((B - 1) * K + 1)) sizes (I .map .starts) (I .map .heads) (I .map .costs) (I .source) (I .map .nodes * I .ceiling + 1) needed l
+  pub built-runs : SomeRunsOn (layoutOf (I .map .nodes) B K ((B - 1) * K + 1)) sizes (I .map .starts) (I .map .heads) (I .map .costs) (I .map .holds) (I .source) (I .map .nodes * I .ceiling + 1) needed l
   built-runs =
       rw (built .buckets-are, built .segments-are, built .sizes-are, built .needed-are)
       (record { setting = setting (built .ready); runs-on = runs-on l (built .ready) })

@@ -42,9 +42,9 @@ pub record RunsOn {layout : Layout} {sizes : List ℕ} (X : Setting layout sizes
   pub work-fit : needed ≤ length (l .work)
 
 -- Some setting is so (document 01, "What the planner holds and leaves out").
-pub record SomeRunsOn (layout : Layout) (sizes starts heads costs : List ℕ) (source top needed : ℕ) (l : Lent) : Type 0 where
+pub record SomeRunsOn (layout : Layout) (sizes starts heads costs holds : List ℕ) (source top needed : ℕ) (l : Lent) : Type 0 where
   pub setting : Setting layout sizes
-  pub runs-on : RunsOn setting (mapOf (layout .nodes) starts heads costs) source top needed l
+  pub runs-on : RunsOn setting (mapOf (layout .nodes) starts heads costs holds) source top needed l
 
 -- The lists hold what the steps h leave, the scan order included, and the numbers are those of h (document 01, "The tallies").
 pub record Ended (h : Heap) (needed : ℕ) (l l′ : Lent) (s : State) : Type 0 where

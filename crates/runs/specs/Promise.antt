@@ -71,10 +71,11 @@ pub record Ran (L : Levels) (I : Inputs) (check : Check) (r : RunAnswer) (l l′
 abbrev pub Promised : Levels → Inputs → RunAnswer → (l l′ : Lent) → Type 0
 Promised L I r l l′ = Ran L I (firstFault (runChecks L I (lengthsOf l))) r l l′
 
--- The one-level run for every input: checks 1 to 8 and 10 in order (document 01, "What a call returns").
+-- The one-level run for every input: checks 1 to 6, 20, 7, 8 and 10 in order (document 01, "What a call returns"; document 02,
+-- paper 2).
 abbrev pub OneLevelPromised : Inputs → RunAnswer → (l l′ : Lent) → Type 0
 OneLevelPromised = Promised one
 
--- The two-level run for every input: checks 1 to 10 in order (document 01, "What a call returns").
+-- The two-level run for every input: checks 1 to 6, 20, 7 to 10 in order (document 01, "What a call returns"; document 02, paper 2).
 abbrev pub TwoLevelPromised : (K : ℕ) → Inputs → RunAnswer → (l l′ : Lent) → Type 0
 TwoLevelPromised K = Promised (two K)

@@ -34,6 +34,7 @@ fn run_on(
     starts: &[u32],
     heads: &[u32],
     costs: &[u32],
+    holds: &[u32],
     distances: &mut [u32],
     parents: &mut [u32],
     roster: &mut [u32],
@@ -44,10 +45,10 @@ fn run_on(
     source: Node,
     needed: usize,
 ) -> State
-    requires { ⌜ SomeRunsOn layout (now sizes) (now starts) (now heads) (now costs) (source .0) top needed
+    requires { ⌜ SomeRunsOn layout (now sizes) (now starts) (now heads) (now costs) (now holds) (source .0) top needed
         (lent (now distances) (now parents) (now roster) (now work)) ⌝ }
     ensures { λ r. ⌜ ((X : Setting layout (now (sizes .entry)))
-        → RunsOn X (mapOf (layout .nodes) (now (starts .entry)) (now (heads .entry)) (now (costs .entry))) (source .0) top needed
+        → RunsOn X (mapOf (layout .nodes) (now (starts .entry)) (now (heads .entry)) (now (costs .entry)) (now (holds .entry))) (source .0) top needed
         (lent (now (distances .entry)) (now (parents .entry)) (now (roster .entry)) (now (work .entry)))
         → Ended (heap (X .network) (X .shape)) needed
         (lent (now (distances .entry)) (now (parents .entry)) (now (roster .entry)) (now (work .entry)))
@@ -63,6 +64,7 @@ fn run_on(
         starts,
         heads,
         costs,
+        holds,
         layout,
         top,
         source,
@@ -83,17 +85,18 @@ fn steps(
     starts: &[u32],
     heads: &[u32],
     costs: &[u32],
+    holds: &[u32],
     distances: &mut [u32],
     parents: &mut [u32],
     roster: &mut [u32],
     work: &mut [u32],
 ) -> RunAnswer
-    requires { ⌜ SomeBuilt (inputs n ceiling (source .0) (now starts) (now heads) (now costs)) buckets segments (now sizes) needed
+    requires { ⌜ SomeBuilt (inputs n ceiling (source .0) (now starts) (now heads) (now costs) (now holds)) buckets segments (now sizes) needed
         (lent (now distances) (now parents) (now roster) (now work)) ⌝ }
     ensures { λ r. ⌜ ((L : Levels)
-        → Built L (inputs n ceiling (source .0) (now (starts .entry)) (now (heads .entry)) (now (costs .entry))) buckets segments (now (sizes .entry)) needed
+        → Built L (inputs n ceiling (source .0) (now (starts .entry)) (now (heads .entry)) (now (costs .entry)) (now (holds .entry))) buckets segments (now (sizes .entry)) needed
         (lent (now (distances .entry)) (now (parents .entry)) (now (roster .entry)) (now (work .entry)))
-        → Ran L (inputs n ceiling (source .0) (now (starts .entry)) (now (heads .entry)) (now (costs .entry))) Passed r
+        → Ran L (inputs n ceiling (source .0) (now (starts .entry)) (now (heads .entry)) (now (costs .entry)) (now (holds .entry))) Passed r
         (lent (now (distances .entry)) (now (parents .entry)) (now (roster .entry)) (now (work .entry)))
         (lent (now (distances .exit)) (now (parents .exit)) (now (roster .exit)) (now (work .exit)))) ⌝ }
 {
@@ -109,6 +112,7 @@ fn steps(
         starts,
         heads,
         costs,
+        holds,
         distances,
         parents,
         roster,
@@ -130,12 +134,13 @@ pub fn one_level(
     starts: &[u32],
     heads: &[u32],
     costs: &[u32],
+    holds: &[u32],
     distances: &mut [u32],
     parents: &mut [u32],
     roster: &mut [u32],
     work: &mut [u32],
 ) -> RunAnswer
-    ensures { λ r. ⌜ OneLevelPromised (inputs n ceiling (source .0) (now (starts .entry)) (now (heads .entry)) (now (costs .entry))) r
+    ensures { λ r. ⌜ OneLevelPromised (inputs n ceiling (source .0) (now (starts .entry)) (now (heads .entry)) (now (costs .entry)) (now (holds .entry))) r
         (lent (now (distances .entry)) (now (parents .entry)) (now (roster .entry)) (now (work .entry)))
         (lent (now (distances .exit)) (now (parents .exit)) (now (roster .exit)) (now (work .exit))) ⌝ }
 {
@@ -146,6 +151,7 @@ pub fn one_level(
         starts,
         heads,
         costs,
+        holds,
         distances.len(),
         parents.len(),
         roster.len(),
@@ -168,6 +174,7 @@ pub fn one_level(
         starts,
         heads,
         costs,
+        holds,
         distances,
         parents,
         roster,
@@ -184,12 +191,13 @@ pub fn two_level(
     starts: &[u32],
     heads: &[u32],
     costs: &[u32],
+    holds: &[u32],
     distances: &mut [u32],
     parents: &mut [u32],
     roster: &mut [u32],
     work: &mut [u32],
 ) -> RunAnswer
-    ensures { λ r. ⌜ TwoLevelPromised segments (inputs n ceiling (source .0) (now (starts .entry)) (now (heads .entry)) (now (costs .entry))) r
+    ensures { λ r. ⌜ TwoLevelPromised segments (inputs n ceiling (source .0) (now (starts .entry)) (now (heads .entry)) (now (costs .entry)) (now (holds .entry))) r
         (lent (now (distances .entry)) (now (parents .entry)) (now (roster .entry)) (now (work .entry)))
         (lent (now (distances .exit)) (now (parents .exit)) (now (roster .exit)) (now (work .exit))) ⌝ }
 {
@@ -201,6 +209,7 @@ pub fn two_level(
         starts,
         heads,
         costs,
+        holds,
         distances.len(),
         parents.len(),
         roster.len(),
@@ -223,6 +232,7 @@ pub fn two_level(
         starts,
         heads,
         costs,
+        holds,
         distances,
         parents,
         roster,

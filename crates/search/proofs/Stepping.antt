@@ -3,11 +3,11 @@ use Prim.Native.Nat.{ℕ, zero, suc, _+_, _-_, _<_, _≤_}
 use native.Mathlib.Omega.{arith}
 use native.Mathlib.Numerals.{add-one}
 use mathlib.Core.Path.{_≡_, refl, sym, _∙_, ap}
-use mathlib.Core.List.{List, [], _∷_}
+use mathlib.Core.List.{List, [], _∷_, List·Memᴰ}
 use lib.ListN.{length, getD, length-append}
 use Rattle.theory.specs.Sums.{sumBelow}
 use Rattle.theory.specs.Maps.{Map, mapOf}
-use Rattle.theory.specs.Network.{Network, network}
+use Rattle.theory.specs.Network.{Network, network, tailHold}
 use Rattle.theory.specs.Shape.{Shape}
 use Rattle.theory.specs.Search.{Mark, unlabelled, labelled, scanned, Search, mark, blank, label}
 use Rattle.theory.specs.Heap.{Heap, nothing, picked, pick, heapRemove, heapRelaxAll, heapScan, heapFrom, heapLabel, heapBlank, heapStart, heap}
@@ -17,7 +17,7 @@ use Rattle.theory.proofs.Search.Invariant.{labelled-node, scans-fewer}
 use Rattle.theory.proofs.Search.Scanning.{scan-roster}
 use Rattle.theory.proofs.Heap.Pick.{lowest-of-min, pick-lowest, pick-nothing}
 use Rattle.theory.proofs.Heap.Run.{remove-relaxing, scan-resting, scan-search, start-resting}
-use Rattle.theory.proofs.Maps.Arcs.{starts-mono}
+use Rattle.theory.proofs.Maps.Arcs.{starts-mono, linkOf, leaves-out}
 use Rattle.state.specs.declared.Layout.{Layout}
 use Rattle.state.specs.declared.State.{State}
 use Rattle.state.specs.Stands.{Setting, Lists, Stands}
@@ -78,10 +78,10 @@ unfolding heapFrom
 next-heap N sh left j k d v h e = rw (e, heapFrom)
 
 -- One step: a removal and the scan of the node removed.
-module _ {layout : Layout} {sizes starts heads costs : List ℕ} {X : Setting layout sizes} {source : ℕ} {before : List ℕ} {h : Heap} {l : Lists} {s : State}
-    (T : Steps X (mapOf (layout .nodes) starts heads costs) source before h l s) where
+module _ {layout : Layout} {sizes starts heads costs holds : List ℕ} {X : Setting layout sizes} {source : ℕ} {before : List ℕ} {h : Heap} {l : Lists} {s : State}
+    (T : Steps X (mapOf (layout .nodes) starts heads costs holds) source before h l s) where
   abbrev M : Map
-  M = mapOf (layout .nodes) starts heads costs
+  M = mapOf (layout .nodes) starts heads costs holds
 
   abbrev N : Network
   N = X .network
@@ -117,14 +117,17 @@ module _ {layout : Layout} {sizes starts heads costs : List ℕ} {X : Setting la
     after = heapScan N sh (R .bucket) (seg sh (h .bounds) (R .bucket) (s′ .front)) (s′ .front) v h
 
     -- The node's links are those of the arcs between its two starts.
-    out-links : N .out v ≡ linksBetween heads costs first last
+    abbrev hold : ℕ
+    hold = tailHold holds source v
+
+    out-links : N .out v ≡ linksBetween heads costs hold first last
     unfolding network
     out-links = rw (T .network-is, add-one)
 
     last-low : last ≤ length heads
     last-low = rw add-one (omega (arith, starts-mono (T .sound) (suc v) (layout .nodes) (omega (arith, step-node)) (omega arith), T .sound .starts-last))
 
-    step-scans : Scans X before v removed l′ s′ heads costs first last
+    step-scans : Scans X before v removed l′ s′ heads costs hold first last
     step-scans = record {
       stands = R .stands;
       relaxing = rw out-links at (remove-relaxing (X .admissible) (X .lawful) (X .room) (T .resting) (R .fit) (R .least));
@@ -133,6 +136,10 @@ module _ {layout : Layout} {sizes starts heads costs : List ℕ} {X : Setting la
       heads-long = last-low;
       costs-long = omega (arith, last-low, T .sound .costs-length);
       few = omega (arith, last-low, T .sound .few-arcs);
+      sums-low = λ a low high.
+          let below : a < getD starts (suc v) 0 = rw add-one at high in
+          let member : List·Memᴰ (linkOf M source v a) (N .out v) = rw (T .network-is) (leaves-out M source v a (low, below)) in
+          omega (arith, X .admissible .costs v (omega (arith, step-node, X .nodes)) (linkOf M source v a) member, X .admissible .low-ceiling);
     }
 
     more-scanned : length (after .search .roster) ≡ suc (length (h .search .roster))
@@ -152,7 +159,7 @@ module _ {layout : Layout} {sizes starts heads costs : List ℕ} {X : Setting la
         let p = pick-lowest (X .lawful) (T .resting .rest) (T .resting .inv) _ _ _ _ .1 (lowest-of-min (X .lawful) (T .resting .rest) (T .resting .inv) (R .fit) (R .least)) in
         sym (next-heap N sh (T .left - 1) _ _ _ _ h p) ∙ ap (λ (k : ℕ). heapFrom N sh k h) (sym e) ∙ T .leads
 
-    module _ {l″ : Lists} {s″ : State} (S : Stands layout sh before (heapRelaxAll sh (s′ .front) (linksBetween heads costs first last) removed) l″ s″) (front : s″ .front ≡ s′ .front) where
+    module _ {l″ : Lists} {s″ : State} (S : Stands layout sh before (heapRelaxAll sh (s′ .front) (linksBetween heads costs hold first last) removed) l″ s″) (front : s″ .front ≡ s′ .front) where
       step-stands : Stands layout sh before after l″ s″
       unfolding heapScan
       step-stands = rw out-links S
@@ -173,10 +180,10 @@ module _ {layout : Layout} {sizes starts heads costs : List ℕ} {X : Setting la
       step-less = omega (arith, step-stands .reached, T .stands .reached, more-scanned, fewer, X .nodes)
 
 -- A run begins with the source labelled, and every removal left.
-pub start-steps : {layout : Layout} {sizes starts heads costs : List ℕ} {X : Setting layout sizes} {source top : ℕ} {words distances parents roster words′ distances′ parents′ : List ℕ} {s : State}
-    → Runs X (mapOf (layout .nodes) starts heads costs) source words distances parents roster top
+pub start-steps : {layout : Layout} {sizes starts heads costs holds : List ℕ} {X : Setting layout sizes} {source top : ℕ} {words distances parents roster words′ distances′ parents′ : List ℕ} {s : State}
+    → Runs X (mapOf (layout .nodes) starts heads costs holds) source words distances parents roster top
     → Stands layout (X .shape) roster (heapStart (X .network) (X .shape)) (lists words′ distances′ parents′ roster) s → s .front ≡ 0
-    → Steps X (mapOf (layout .nodes) starts heads costs) source roster (heapStart (X .network) (X .shape)) (lists words′ distances′ parents′ roster) s
+    → Steps X (mapOf (layout .nodes) starts heads costs holds) source roster (heapStart (X .network) (X .shape)) (lists words′ distances′ parents′ roster) s
 start-steps {X} R S front = record {
   sound = R .sound;
   network-is = R .network-is;
@@ -194,58 +201,63 @@ record Reaches {layout : Layout} {sizes : List ℕ} (X : Setting layout sizes) (
   steps : Steps X M source before heap l s
 
 -- Whatever heap the words stood for when the steps began, they now stand for one from which the steps left lead to the same end.
-pub record Stepped (layout : Layout) (sizes starts heads costs words₀ distances₀ parents₀ roster₀ : List ℕ) (s₀ : State) (words distances parents roster : List ℕ) (s : State) : Type 0 where
-  reaches : (X : Setting layout sizes) (source : ℕ) (before : List ℕ) (h : Heap) → Steps X (mapOf (layout .nodes) starts heads costs) source before h (lists words₀ distances₀ parents₀ roster₀) s₀
-      → Reaches X (mapOf (layout .nodes) starts heads costs) source before (lists words distances parents roster) s
+pub record Stepped (layout : Layout) (sizes starts heads costs holds : List ℕ) (source : ℕ) (words₀ distances₀ parents₀ roster₀ : List ℕ) (s₀ : State) (words distances parents roster : List ℕ) (s : State) : Type 0 where
+  reaches : (X : Setting layout sizes) (before : List ℕ) (h : Heap) → Steps X (mapOf (layout .nodes) starts heads costs holds) source before h (lists words₀ distances₀ parents₀ roster₀) s₀
+      → Reaches X (mapOf (layout .nodes) starts heads costs holds) source before (lists words distances parents roster) s
 
-pub stepped-start : {layout : Layout} {sizes starts heads costs words distances parents roster : List ℕ} {s : State}
-    → Stepped layout sizes starts heads costs words distances parents roster s words distances parents roster s
-stepped-start = record { reaches = λ X source before h T. record { heap = h; steps = T } }
+pub stepped-start : {layout : Layout} {sizes starts heads costs holds : List ℕ} {source : ℕ} {words distances parents roster : List ℕ} {s : State}
+    → Stepped layout sizes starts heads costs holds source words distances parents roster s words distances parents roster s
+stepped-start = record { reaches = λ X before h T. record { heap = h; steps = T } }
 
-module _ {layout : Layout} {sizes starts heads costs words₀ distances₀ parents₀ roster₀ : List ℕ} {s₀ : State} {words distances parents roster : List ℕ} {s : State}
-    (D : Stepped layout sizes starts heads costs words₀ distances₀ parents₀ roster₀ s₀ words distances parents roster s) where
-  pub stepped-end : s .tally .insertions ≤ s .reached → (X : Setting layout sizes) (source : ℕ) (before : List ℕ) (h : Heap)
-      → Steps X (mapOf (layout .nodes) starts heads costs) source before h (lists words₀ distances₀ parents₀ roster₀) s₀
+module _ {layout : Layout} {sizes starts heads costs holds : List ℕ} {source : ℕ} {words₀ distances₀ parents₀ roster₀ : List ℕ} {s₀ : State} {words distances parents roster : List ℕ} {s : State}
+    (D : Stepped layout sizes starts heads costs holds source words₀ distances₀ parents₀ roster₀ s₀ words distances parents roster s) where
+  pub stepped-end : s .tally .insertions ≤ s .reached → (X : Setting layout sizes) (before : List ℕ) (h : Heap)
+      → Steps X (mapOf (layout .nodes) starts heads costs holds) source before h (lists words₀ distances₀ parents₀ roster₀) s₀
       → Stands layout (X .shape) before (heap (X .network) (X .shape)) (lists words distances parents roster) s
-  stepped-end over X source before h T = step-over (D .reaches X source before h T .steps) over
+  stepped-end over X before h T = step-over (D .reaches X before h T .steps) over
 
   module _ (less : s .reached < s .tally .insertions) where
-    module _ (P : SomeSteps layout sizes words₀ distances₀ parents₀ roster₀ starts heads costs s₀) where
-      abbrev now : Reaches (P .setting) (mapOf (layout .nodes) starts heads costs) (P .source) (P .before) (lists words distances parents roster) s
-      now = D .reaches (P .setting) (P .source) (P .before) (P .heap) (P .steps)
+    module _ (P : SomeSteps layout sizes words₀ distances₀ parents₀ roster₀ starts heads costs holds s₀ source) where
+      abbrev now : Reaches (P .setting) (mapOf (layout .nodes) starts heads costs holds) source (P .before) (lists words distances parents roster) s
+      now = D .reaches (P .setting) (P .before) (P .heap) (P .steps)
 
       pub stepped-rests : SomeRests layout sizes words distances roster s
       stepped-rests = record { parents = parents; setting = P .setting; before = P .before; heap = now .heap; rests = step-rests (now .steps) less }
 
     module _ {words′ roster′ : List ℕ} {r : Removed} (removes : Removes layout sizes words words′ distances roster roster′ s r) where
-      abbrev removal : {X : Setting layout sizes} {source : ℕ} {before : List ℕ} {h : Heap} → Steps X (mapOf (layout .nodes) starts heads costs) source before h (lists words distances parents roster) s
+      abbrev removal : {X : Setting layout sizes} {before : List ℕ} {h : Heap} → Steps X (mapOf (layout .nodes) starts heads costs holds) source before h (lists words distances parents roster) s
           → Removal X before h (lists words′ distances parents roster′) (r .state) (r .node .0)
       removal {X} {before} {h} T = removes X before parents h (step-rests T less)
 
-      module _ (P : SomeSteps layout sizes words₀ distances₀ parents₀ roster₀ starts heads costs s₀) where
+      module _ (P : SomeSteps layout sizes words₀ distances₀ parents₀ roster₀ starts heads costs holds s₀ source) where
         -- The node removed has two starts.
         pub stepped-node : r .node .0 + 1 < length starts
         stepped-node = let T = now P .steps in omega (arith, step-node T (removal T), T .sound .starts-length)
 
-        pub stepped-scans : SomeScans layout sizes words′ distances parents (r .state) heads costs (getD starts (r .node .0) 0) (getD starts (r .node .0 + 1) 0)
-        stepped-scans = let T = now P .steps in record { setting = P .setting; before = P .before; roster = roster′; tail = r .node .0; heap = _; scans = step-scans T (removal T) }
+        -- and a hold
+        pub stepped-held : r .node .0 < length holds
+        stepped-held = let T = now P .steps in omega (arith, step-node T (removal T), T .sound .holds-length)
+
+        pub stepped-scans : {hold : ℕ} → hold ≡ tailHold holds source (r .node .0)
+            → SomeScans layout sizes words′ distances parents (r .state) heads costs hold (getD starts (r .node .0) 0) (getD starts (r .node .0 + 1) 0)
+        stepped-scans e = let T = now P .steps in rw e record { setting = P .setting; before = P .before; roster = roster′; tail = r .node .0; heap = _; scans = step-scans T (removal T) }
 
       -- What the scan makes of the words.
-      module _ {words″ distances″ parents″ : List ℕ} {s″ : State}
+      module _ {words″ distances″ parents″ : List ℕ} {s″ : State} {hold : ℕ} (paid : hold ≡ tailHold holds source (r .node .0))
           (scanned : (X : Setting layout sizes) (before roster : List ℕ) (u : ℕ) (h : Heap)
-          → Scans X before u h (lists words′ distances parents roster) (r .state) heads costs (getD starts (r .node .0) 0) (getD starts (r .node .0 + 1) 0)
-          → Stands layout (X .shape) before (heapRelaxAll (X .shape) (r .state .front) (linksBetween heads costs (getD starts (r .node .0) 0) (getD starts (r .node .0 + 1) 0)) h) (lists words″ distances″ parents″ roster) s″)
+          → Scans X before u h (lists words′ distances parents roster) (r .state) heads costs hold (getD starts (r .node .0) 0) (getD starts (r .node .0 + 1) 0)
+          → Stands layout (X .shape) before (heapRelaxAll (X .shape) (r .state .front) (linksBetween heads costs hold (getD starts (r .node .0) 0) (getD starts (r .node .0 + 1) 0)) h) (lists words″ distances″ parents″ roster) s″)
           (front : s″ .front ≡ r .state .front) where
-        pub stepped-next : Stepped layout sizes starts heads costs words₀ distances₀ parents₀ roster₀ s₀ words″ distances″ parents″ roster′ s″
+        pub stepped-next : Stepped layout sizes starts heads costs holds source words₀ distances₀ parents₀ roster₀ s₀ words″ distances″ parents″ roster′ s″
         stepped-next = record {
-          reaches = λ X source before h T₀.
-              let T = D .reaches X source before h T₀ .steps in
+          reaches = λ X before h T₀.
+              let T = D .reaches X before h T₀ .steps in
               let R = removal T in
-              record { heap = _; steps = step-next T R (scanned X before roster′ (r .node .0) _ (step-scans T R)) front };
+              record { heap = _; steps = step-next T R ((rw paid at scanned) X before roster′ (r .node .0) _ (step-scans T R)) front };
         }
 
-        pub stepped-less : SomeSteps layout sizes words₀ distances₀ parents₀ roster₀ starts heads costs s₀ → layout .nodes - s″ .reached < layout .nodes - s .reached
+        pub stepped-less : SomeSteps layout sizes words₀ distances₀ parents₀ roster₀ starts heads costs holds s₀ source → layout .nodes - s″ .reached < layout .nodes - s .reached
         stepped-less P =
             let T = now P .steps in
             let R = removal T in
-            step-less T R (scanned (P .setting) (P .before) roster′ (r .node .0) _ (step-scans T R)) front
+            step-less T R ((rw paid at scanned) (P .setting) (P .before) roster′ (r .node .0) _ (step-scans T R)) front

@@ -6,9 +6,10 @@ use state::State;
 use state::Tally;
 ghost use mathlib.Core.Path.{_≡_};
 ghost use mathlib.Core.List.{List};
-ghost use Prim.Native.Nat.{ℕ};
+ghost use Prim.Native.Nat.{ℕ, _<_};
 ghost use lib.ListN.{length, replicate};
 ghost use Rattle.theory.specs.Maps.{mapOf};
+ghost use Rattle.theory.specs.Network.{tailHold};
 ghost use Rattle.theory.specs.Heap.{Heap, heap, heapRelaxAll, heapStart};
 ghost use Rattle.state.specs.Stands.{Setting, Stands};
 ghost use Rattle.placing.specs.Placing.{lists};
@@ -72,7 +73,19 @@ pub fn start(
     )
 }
 
-// The arcs first, first + 1, .., last - 1 of the node scanned last are taken in number order.
+// What the arcs out of node v cost besides themselves (document 02, paper 2).
+pub fn tail_hold(holds: &[u32], source: Node, v: Node) -> u32
+    requires { ⌜ v .0 < length (now holds) ⌝ }
+    ensures { λ r. ⌜ r ≡ tailHold (now (holds .entry)) (source .0) (v .0) ⌝ }
+{
+    if v.0 == source.0 {
+        0
+    } else {
+        holds[v.0 as usize]
+    }
+}
+
+// The arcs first, first + 1, .., last - 1 of the node scanned last are taken in number order. Each costs `hold` besides itself.
 pub fn scan(
     words: &mut [u32],
     distances: &mut [u32],
@@ -80,15 +93,16 @@ pub fn scan(
     sizes: &[u32],
     heads: &[u32],
     costs: &[u32],
+    hold: u32,
     layout: Layout,
     state: State,
     first: usize,
     last: usize,
 ) -> State
-    requires { ⌜ SomeScans layout (now sizes) (now words) (now distances) (now parents) state (now heads) (now costs) first last ⌝ }
+    requires { ⌜ SomeScans layout (now sizes) (now words) (now distances) (now parents) state (now heads) (now costs) hold first last ⌝ }
     ensures { λ r. ⌜ ((X : Setting layout (now (sizes .entry))) (before roster : List ℕ) (u : ℕ) (h : Heap)
-        → Scans X before u h (lists (now (words .entry)) (now (distances .entry)) (now (parents .entry)) roster) state (now (heads .entry)) (now (costs .entry)) first last
-        → Stands layout (X .shape) before (heapRelaxAll (X .shape) (state .front) (linksBetween (now (heads .entry)) (now (costs .entry)) first last) h) (lists (now (words .exit)) (now (distances .exit)) (now (parents .exit)) roster) r) ⌝ }
+        → Scans X before u h (lists (now (words .entry)) (now (distances .entry)) (now (parents .entry)) roster) state (now (heads .entry)) (now (costs .entry)) hold first last
+        → Stands layout (X .shape) before (heapRelaxAll (X .shape) (state .front) (linksBetween (now (heads .entry)) (now (costs .entry)) hold first last) h) (lists (now (words .exit)) (now (distances .exit)) (now (parents .exit)) roster) r) ⌝ }
     ensures front { λ r. ⌜ r .front ≡ state .front ⌝ }
 {
     let mut reached = state;
@@ -103,7 +117,7 @@ pub fn scan(
             reached,
             Node(heads[a]),
             Arc(a as u32),
-            costs[a],
+            costs[a] + hold,
         );
         a += 1;
     }
@@ -120,18 +134,21 @@ fn scan_all(
     starts: &[u32],
     heads: &[u32],
     costs: &[u32],
+    holds: &[u32],
     layout: Layout,
     state: State,
+    source: Node,
 ) -> State
-    requires { ⌜ SomeSteps layout (now sizes) (now words) (now distances) (now parents) (now roster) (now starts) (now heads) (now costs) state ⌝ }
-    ensures { λ r. ⌜ ((X : Setting layout (now (sizes .entry))) (source : ℕ) (before : List ℕ) (h : Heap)
-        → Steps X (mapOf (layout .nodes) (now (starts .entry)) (now (heads .entry)) (now (costs .entry))) source before h (lists (now (words .entry)) (now (distances .entry)) (now (parents .entry)) (now (roster .entry))) state
+    requires { ⌜ SomeSteps layout (now sizes) (now words) (now distances) (now parents) (now roster) (now starts) (now heads) (now costs) (now holds) state (source .0) ⌝ }
+    ensures { λ r. ⌜ ((X : Setting layout (now (sizes .entry))) (before : List ℕ) (h : Heap)
+        → Steps X (mapOf (layout .nodes) (now (starts .entry)) (now (heads .entry)) (now (costs .entry)) (now (holds .entry))) (source .0) before h (lists (now (words .entry)) (now (distances .entry)) (now (parents .entry)) (now (roster .entry))) state
         → Stands layout (X .shape) before (heap (X .network) (X .shape)) (lists (now (words .exit)) (now (distances .exit)) (now (parents .exit)) (now (roster .exit))) r) ⌝ }
 {
     let mut step = state;
     while step.reached < step.tally.insertions {
         let removed = removal::remove(words, distances, roster, sizes, layout, step);
         let at = removed.node.0 as usize;
+        let hold = tail_hold(holds, source, removed.node);
         let first = starts[at] as usize;
         let last = starts[at + 1] as usize;
         step = scan(
@@ -141,6 +158,7 @@ fn scan_all(
             sizes,
             heads,
             costs,
+            hold,
             layout,
             removed.state,
             first,
@@ -160,13 +178,14 @@ pub fn run(
     starts: &[u32],
     heads: &[u32],
     costs: &[u32],
+    holds: &[u32],
     layout: Layout,
     top: u32,
     source: Node,
 ) -> State
-    requires { ⌜ SomeRuns layout (now sizes) (now words) (now distances) (now parents) (now roster) (now starts) (now heads) (now costs) top (source .0) ⌝ }
+    requires { ⌜ SomeRuns layout (now sizes) (now words) (now distances) (now parents) (now roster) (now starts) (now heads) (now costs) (now holds) top (source .0) ⌝ }
     ensures { λ r. ⌜ ((X : Setting layout (now (sizes .entry)))
-        → Runs X (mapOf (layout .nodes) (now (starts .entry)) (now (heads .entry)) (now (costs .entry))) (source .0) (now (words .entry)) (now (distances .entry)) (now (parents .entry)) (now (roster .entry)) top
+        → Runs X (mapOf (layout .nodes) (now (starts .entry)) (now (heads .entry)) (now (costs .entry)) (now (holds .entry))) (source .0) (now (words .entry)) (now (distances .entry)) (now (parents .entry)) (now (roster .entry)) top
         → Stands layout (X .shape) (now (roster .entry)) (heap (X .network) (X .shape)) (lists (now (words .exit)) (now (distances .exit)) (now (parents .exit)) (now (roster .exit))) r) ⌝ }
 {
     let state = start(words, distances, parents, sizes, layout, top, source);
@@ -179,7 +198,9 @@ pub fn run(
         starts,
         heads,
         costs,
+        holds,
         layout,
         state,
+        source,
     )
 }

@@ -2,6 +2,7 @@
 // so that every word written or left shows.
 use crate::lists::COSTS;
 use crate::lists::HEADS;
+use crate::lists::HOLDS;
 use crate::lists::PARENTS;
 use crate::lists::part;
 use model::Node;
@@ -11,8 +12,8 @@ use test_rows::printing::print_byte_sums;
 use test_rows::printing::print_sums;
 use test_rows::rows::Row;
 
-// Row: one N,C,SOURCE STARTS,HEADS,COSTS DISTANCES,PARENTS,ROSTER,WORK
-fn one_level(row: Row, starts: &[u32], heads: &[u32], costs: &[u32]) {
+// Row: one N,C,SOURCE STARTS,HEADS,COSTS,HOLDS DISTANCES,PARENTS,ROSTER,WORK
+fn one_level(row: Row, starts: &[u32], heads: &[u32], costs: &[u32], holds: &[u32]) {
     let mut distances = [1000001u32; 4096];
     let mut parents = [2000003u32; 4096];
     let mut roster = [3000017u32; 4096];
@@ -24,17 +25,18 @@ fn one_level(row: Row, starts: &[u32], heads: &[u32], costs: &[u32]) {
         starts,
         heads,
         costs,
-        front(&mut distances, row.n7),
-        front(&mut parents, row.n8),
-        front(&mut roster, row.n9),
-        front(&mut work, row.n10),
+        holds,
+        front(&mut distances, row.n8),
+        front(&mut parents, row.n9),
+        front(&mut roster, row.n10),
+        front(&mut work, row.n11),
     );
     crate::printing::print_run(answer);
     print_lists(&distances, &parents, &roster, &work);
 }
 
-// Row: two N,C,SOURCE STARTS,HEADS,COSTS DISTANCES,PARENTS,ROSTER,WORK K
-fn two_level(row: Row, starts: &[u32], heads: &[u32], costs: &[u32]) {
+// Row: two N,C,SOURCE STARTS,HEADS,COSTS,HOLDS DISTANCES,PARENTS,ROSTER,WORK K
+fn two_level(row: Row, starts: &[u32], heads: &[u32], costs: &[u32], holds: &[u32]) {
     let mut distances = [1000001u32; 4096];
     let mut parents = [2000003u32; 4096];
     let mut roster = [3000017u32; 4096];
@@ -43,24 +45,25 @@ fn two_level(row: Row, starts: &[u32], heads: &[u32], costs: &[u32]) {
         row.n1,
         row.n2,
         Node(row.n3),
-        row.n11,
+        row.n12,
         starts,
         heads,
         costs,
-        front(&mut distances, row.n7),
-        front(&mut parents, row.n8),
-        front(&mut roster, row.n9),
-        front(&mut work, row.n10),
+        holds,
+        front(&mut distances, row.n8),
+        front(&mut parents, row.n9),
+        front(&mut roster, row.n10),
+        front(&mut work, row.n11),
     );
     crate::printing::print_run(answer);
     print_lists(&distances, &parents, &roster, &work);
 }
 
-fn print_lists(distances: &[u32], parents: &[u32], roster: &[u32], work: &[u32]) {
-    print_sums(distances);
-    print_sums(parents);
-    print_sums(roster);
-    print_sums(work);
+fn print_lists(first: &[u32], second: &[u32], third: &[u32], fourth: &[u32]) {
+    print_sums(first);
+    print_sums(second);
+    print_sums(third);
+    print_sums(fourth);
     io::write_all(1, b"\n");
 }
 
@@ -86,6 +89,7 @@ pub fn plan(file: &[u8]) {
     let mut starts = [1000003u32; 513];
     let mut heads = [2000003u32; 2048];
     let mut costs = [3000017u32; 2048];
+    let mut holds = [8000009u32; 512];
     let mut distances = [4000037u32; 512];
     let mut parents = [5000011u32; 512];
     let mut roster = [6000011u32; 512];
@@ -96,6 +100,7 @@ pub fn plan(file: &[u8]) {
         &mut starts,
         &mut heads,
         &mut costs,
+        &mut holds,
         &mut distances,
         &mut parents,
         &mut roster,
@@ -107,6 +112,7 @@ pub fn plan(file: &[u8]) {
         &starts,
         &heads,
         &costs,
+        &holds,
         &distances,
         &parents,
         &roster,
@@ -114,12 +120,34 @@ pub fn plan(file: &[u8]) {
     );
 }
 
-// All of the output is in its sums, what was not written too.
-fn print_file(file: &[u8], output: &[u8; 33280], length: usize) {
+// Row: into STARTS,HEADS,COSTS,HOLDS
+pub fn read(row: Row, file: &[u8]) {
+    let mut starts = [1000003u32; 4100];
+    let mut heads = [2000003u32; 2050];
+    let mut costs = [3000017u32; 2050];
+    let mut holds = [8000009u32; 4100];
+    let answer = reader::read(
+        file,
+        front(&mut starts, row.n1),
+        front(&mut heads, row.n2),
+        front(&mut costs, row.n3),
+        front(&mut holds, row.n4),
+    );
+    print_bytes(file);
+    crate::printing::print_read(answer);
+    print_lists(&starts, &heads, &costs, &holds);
+}
+
+fn print_bytes(file: &[u8]) {
     io::write_all(1, b"bytes ");
     io::print_decimal(1, file.len() as u64);
     print_byte_sums(file);
     io::write_all(1, b"\n");
+}
+
+// All of the output is in its sums, what was not written too.
+fn print_file(file: &[u8], output: &[u8; 33280], length: usize) {
+    print_bytes(file);
     io::write_all(1, made(output, length));
     io::write_all(1, b"sums");
     print_byte_sums(output);
@@ -129,6 +157,7 @@ fn print_all(
     starts: &[u32; 513],
     heads: &[u32; 2048],
     costs: &[u32; 2048],
+    holds: &[u32; 512],
     distances: &[u32; 512],
     parents: &[u32; 512],
     roster: &[u32; 512],
@@ -137,6 +166,7 @@ fn print_all(
     print_sums(starts);
     print_sums(heads);
     print_sums(costs);
+    print_sums(holds);
     print_lists(distances, parents, roster, work);
 }
 
@@ -146,8 +176,20 @@ pub fn call(row: Row, map: &[u32]) {
     let heads = part(map, HEADS, row.n5);
     let word = row.word;
     match word {
-        b'o' => one_level(row, starts, heads, part(map, COSTS, row.n6)),
-        b't' => two_level(row, starts, heads, part(map, COSTS, row.n6)),
+        b'o' => one_level(
+            row,
+            starts,
+            heads,
+            part(map, COSTS, row.n6),
+            part(map, HOLDS, row.n7),
+        ),
+        b't' => two_level(
+            row,
+            starts,
+            heads,
+            part(map, COSTS, row.n6),
+            part(map, HOLDS, row.n7),
+        ),
         _ => walk(row, starts, heads, part(map, PARENTS, row.n6)),
     }
 }

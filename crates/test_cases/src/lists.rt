@@ -1,7 +1,7 @@
-// The lists that a map is lent in, one behind the other: 4,098 words of starts, 65,537 of heads and of costs, 4,098 of parents.
+// The lists that a map is lent in, one behind the other: 4,098 words of starts, 65,537 of heads and of costs, 4,098 of parents and of holds.
 use test_rows::rows::Row;
 
-pub type Map = [u32; 139270];
+pub type Map = [u32; 143368];
 
 pub const HEADS: u32 = 4098;
 
@@ -9,9 +9,15 @@ pub const COSTS: u32 = 69635;
 
 pub const PARENTS: u32 = 135172;
 
-// A list is told by its first letter.
+pub const HOLDS: u32 = 139270;
+
+// A list is told by its first letter, holds from heads by the second.
 pub fn place(list: u32, at: u32) -> usize {
     let letter = (list % 256) as u8;
+    let second = (list / 256 % 256) as u8;
+    if letter == b'h' && second == b'o' {
+        return HOLDS as usize + at as usize;
+    }
     match letter {
         b'h' => HEADS as usize + at as usize,
         b'c' => COSTS as usize + at as usize,
@@ -31,7 +37,7 @@ pub fn word_at(map: &[u32], at: usize) -> u32 {
 pub fn put_words(map: &mut Map, row: Row, line: &[u8]) {
     let mut next = row.words;
     let mut i = place(row.n1, row.n2);
-    while i < 139270 && next < line.len() {
+    while i < 143368 && next < line.len() {
         let read = test_rows::rows::field_at(line, next);
         map[i] = read.value;
         next = read.next;
@@ -72,7 +78,7 @@ pub fn spread(map: &mut Map, row: Row) {
     let end = place(row.n1, row.n3);
     let mut word = row.n4;
     let mut i = place(row.n1, row.n2);
-    while i < end && i < 139270 {
+    while i < end && i < 143368 {
         map[i] = drawn(word, drawing, row.n5, row.n6);
         word = next(word, drawing, row.n5);
         i += 1;

@@ -1,5 +1,6 @@
-// The planner on fixed cases, which stand in standard input, a row for each step (document 01, "What a call returns" and "Edges"). Standard
-// output repeats every row and has behind it what the row gave. The head of crates/test_cases/stdin says what each row is.
+// The planner on fixed cases, which stand in standard input, a row for each step (document 01, "What a call returns" and "Edges", and
+// document 02, paper 2). Standard output repeats every row and has behind it what the row gave. The head of crates/test_cases/stdin says
+// what each row is.
 use lists::Map;
 use planning_file::File;
 use test_rows::bytes;
@@ -20,6 +21,7 @@ fn act(line: &[u8], map: &mut Map, file: &mut File, written: usize) -> usize {
         b'f' | b'd' => lists::spread(map, row),
         b'o' | b't' | b'r' => calls::call(row, map),
         b'p' => calls::plan(bytes::made(file, written)),
+        b'i' => calls::read(row, bytes::made(file, written)),
         _ => (),
     }
     match word {
@@ -27,13 +29,13 @@ fn act(line: &[u8], map: &mut Map, file: &mut File, written: usize) -> usize {
         b'h' => bytes::append(file, written, line, row.text),
         b'b' => planning_file::fill_up(file, written, row),
         b'a' => planning_file::append_arcs(file, written, map, row),
-        b'p' => 0,
+        b'p' | b'i' => 0,
         _ => written,
     }
 }
 
 fn act_all(input: &[u8]) {
-    let mut map = [0u32; 139270];
+    let mut map = [0u32; 143368];
     let mut file = [0u8; 65537];
     let mut at = 0;
     let mut written = 0;

@@ -1,5 +1,6 @@
 // What a row gives, in numbers.
 use model::RunAnswer;
+use reader::PlanAnswer;
 use route::RouteAnswer;
 use test_rows::printing::print_number;
 
@@ -32,6 +33,30 @@ pub fn print_run(answer: RunAnswer) {
             counts.looks as u64,
         ),
         RunAnswer::Refused { number, place } => {
+            print_answer(number as u64, place as u64, 0, 0, 0, 0, 0)
+        }
+    }
+}
+
+// Number and place, then n, m, C, source and K.
+pub fn print_read(answer: PlanAnswer) {
+    match answer {
+        PlanAnswer::Read {
+            nodes,
+            arcs,
+            ceiling,
+            source,
+            segments,
+        } => print_answer(
+            0,
+            0,
+            nodes as u64,
+            arcs as u64,
+            ceiling as u64,
+            source.0 as u64,
+            segments as u64,
+        ),
+        PlanAnswer::Refused { number, place } => {
             print_answer(number as u64, place as u64, 0, 0, 0, 0, 0)
         }
     }

@@ -14,6 +14,7 @@ pub fn of_map(map: Map, arcs: u32, spare: u32) -> Case {
         starts: nodes + 1,
         heads: arcs,
         costs: arcs,
+        holds: nodes,
         distances: nodes + more,
         parents: nodes + more,
         roster: nodes + more,

@@ -1,12 +1,14 @@
-// Cases at the edge of every refusal (document 01, "What a call returns"): a small map of which one or two numbers or words are put to an
-// edge, so that the order of the checks shows too.
+// Cases at the edge of every refusal (document 01, "What a call returns", and for 20 and the sums of 8 document 02, paper 2): a small map of
+// which one or two numbers or words are put to an edge, so that the order of the checks shows too.
 use crate::random;
 use test_reference_map::case::Case;
 use test_reference_map::map;
 use test_reference_map::map::Lists;
+use test_reference_map::words::minus;
+use test_reference_map::words::sum;
 
 // Behind the lists of a map: no word is set there.
-const NO_LIST: u64 = 135192;
+const NO_LIST: u64 = 139296;
 
 // One of three numbers.
 pub fn one_of(word: u64, first: u32, second: u32, third: u32) -> u32 {
@@ -57,7 +59,7 @@ fn any_work(word: u64, n: u32, kept: u32) -> u32 {
     }
 }
 
-// 1, 2, 3, 5 and 9.
+// 1, 2, 3, 5, 9 and the length of 20.
 fn with_numbers(case: Case, refusal: u32, word: u64) -> Case {
     let mut changed = case;
     let n = case.nodes;
@@ -69,7 +71,9 @@ fn with_numbers(case: Case, refusal: u32, word: u64) -> Case {
     changed.ceiling = kept_or(refusal == 2, case.ceiling, ceiling);
     changed.source = kept_or(refusal == 3, case.source, source);
     changed.starts = kept_or(refusal == 5, case.starts, starts);
+    let holds = one_of(word, before(n), n, after(n));
     changed.segments = kept_or(refusal == 9, case.segments, any_segments(word));
+    changed.holds = kept_or(refusal == 20, case.holds, holds);
     changed
 }
 
@@ -95,6 +99,14 @@ fn with_lent(case: Case, word: u64) -> Case {
     changed
 }
 
+// The refusals of a run, of which there are 11: 1 to 10, and 20.
+pub fn refusal_of(i: u32) -> u32 {
+    if i < 10 {
+        return i + 1;
+    }
+    20
+}
+
 // The case with the numbers that a refusal is about at an edge.
 pub fn numbers(case: Case, refusal: u32, word: u64) -> Case {
     match refusal {
@@ -110,23 +122,48 @@ fn list_of(refusal: u32) -> u64 {
         6 => map::STARTS,
         7 => map::HEADS,
         8 => map::COSTS,
+        20 => map::HOLDS,
         _ => NO_LIST,
     }
 }
 
-// A word of starts is any small number, m, or m + 1; a head or a cost is the most there may be, or more.
-fn edge_word(case: Case, refusal: u32, word: u64) -> u32 {
+// How many words of it there are to choose from.
+fn count_of(case: Case, refusal: u32) -> u32 {
+    match refusal {
+        6 => case.starts,
+        20 => case.nodes,
+        _ => case.heads,
+    }
+}
+
+// What the hold of an arc's tail leaves of the ceiling.
+fn left_for(case: Case, lists: &Lists, arc: u64) -> u32 {
+    let nodes = case.nodes as u64;
+    let mut v = 0;
+    while v < nodes {
+        if arc < map::start(lists, sum(v, 1)) {
+            let left = minus(case.ceiling as u64, map::hold(lists, v));
+            return (left % 4294967296) as u32;
+        }
+        v += 1;
+    }
+    case.ceiling
+}
+
+// A word of starts is any small number, m, or m + 1; a head, a hold or a cost with its tail's hold is the most there may be, or more.
+fn edge_word(case: Case, refusal: u32, left: u32, word: u64) -> u32 {
     match refusal {
         6 => one_of(word, random::below(word, 6), case.heads, after(case.heads)),
         7 => one_of(word, before(case.nodes), case.nodes, 4294967295),
+        8 => one_of(word, left, after(left), 4294967295),
         _ => one_of(word, case.ceiling, after(case.ceiling), 4294967295),
     }
 }
 
 // The map with a word that a refusal is about at an edge.
 pub fn words(case: Case, refusal: u32, word: u64, lists: &mut Lists) {
-    let count = kept_or(refusal == 6, case.heads, case.starts);
-    let place = random::below(word, count) as u64;
-    let put = edge_word(case, refusal, random::next(word)) as u64;
+    let place = random::below(word, count_of(case, refusal)) as u64;
+    let left = left_for(case, lists, place);
+    let put = edge_word(case, refusal, left, random::next(word)) as u64;
     map::set(lists, list_of(refusal), place, put);
 }

@@ -20,11 +20,13 @@ pub const HEADS: u32 = 4294967207;
 
 pub const COSTS: u32 = 4294967208;
 
-// What the three lists of a map are full of before it is put there.
+pub const HOLDS: u32 = 4294967210;
+
+// What the lists of a map are full of before it is put there.
 pub const MAP: u32 = 4294967209;
 
 // No row of the table: each of its numbers is 0.
-pub const CLEARED: u64 = 11;
+pub const CLEARED: u64 = 12;
 
 // Words of a list from a place on, or fewer if it has no more.
 pub fn part(list: &[u32], first: u64, count: u32) -> &[u32] {

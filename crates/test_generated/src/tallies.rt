@@ -29,19 +29,24 @@ pub fn print_found(cases: u64, differences: u64) {
     io::write_all(1, b"\n");
 }
 
-// A line for each number that the functions of document 01 return.
+// A line for each number that runs, routes and planning files return: those of document 01, and 20 of document 02, paper 2.
 pub fn print(tallies: &Table) {
     print_below(tallies, 18);
+    print_number(tallies, 20);
+}
+
+fn print_number(tallies: &Table, number: u64) {
+    io::write_all(1, b"returned ");
+    io::print_decimal(1, number);
+    let cases = nodes::get(tallies, CASES, number);
+    print_found(cases, nodes::get(tallies, DIFFERENCES, number));
 }
 
 // A line for each number below an end.
 pub fn print_below(tallies: &Table, end: u64) {
     let mut number = 0;
     while number < end {
-        io::write_all(1, b"returned ");
-        io::print_decimal(1, number);
-        let cases = nodes::get(tallies, CASES, number);
-        print_found(cases, nodes::get(tallies, DIFFERENCES, number));
+        print_number(tallies, number);
         number += 1;
     }
 }

@@ -1,4 +1,5 @@
-// The steps of both heaps and their counts, taken literally: each question is a loop over all nodes (document 01, "The tallies").
+// The steps of both heaps and their counts, taken literally: each question is a loop over all nodes (document 01, "The tallies", with the
+// holds of document 02, paper 2).
 use crate::heap;
 use crate::heap::Heap;
 use test_reference_map::case::Case;
@@ -159,18 +160,27 @@ fn label(heap: Heap, table: &mut Table, v: u64, key: u64, arc: u64) {
     }
 }
 
-fn scan(heap: Heap, lists: &Lists, table: &mut Table, v: u64) {
+// An arc costs its tail's hold besides itself, unless its tail is the source.
+fn cost_of(source: u64, lists: &Lists, v: u64, arc: u64) -> u64 {
+    let cost = map::cost(lists, arc);
+    if v == source {
+        return cost;
+    }
+    words::sum(cost, map::hold(lists, v))
+}
+
+fn scan(heap: Heap, source: u64, lists: &Lists, table: &mut Table, v: u64) {
     let end = map::start(lists, words::sum(v, 1));
     let mut arc = map::start(lists, v);
     while arc < end {
-        let key = words::sum(key_of(table, v), map::cost(lists, arc));
+        let key = words::sum(key_of(table, v), cost_of(source, lists, v, arc));
         label(heap, table, map::head(lists, arc), key, arc);
         arc += 1;
     }
 }
 
 // Removals until nothing is labelled; each scanned node's place in the order is kept.
-fn remove_all(heap: Heap, n: u64, lists: &Lists, table: &mut Table) -> u64 {
+fn remove_all(heap: Heap, n: u64, source: u64, lists: &Lists, table: &mut Table) -> u64 {
     let mut scanned = 0;
     while scanned < n {
         let v = remove(heap, n, table);
@@ -178,7 +188,7 @@ fn remove_all(heap: Heap, n: u64, lists: &Lists, table: &mut Table) -> u64 {
             return scanned;
         }
         nodes::set(table, nodes::STEP_ORDER, scanned, v);
-        scan(heap, lists, table, v);
+        scan(heap, source, lists, table, v);
         scanned += 1;
     }
     scanned
@@ -204,8 +214,9 @@ pub fn run(levels: u32, case: Case, lists: &Lists, table: &mut Table) -> Counts 
     let heap = heap::heap_of(levels as u64, n, case.ceiling as u64, case.segments as u64);
     clear(n, table);
     heap::first_bounds(heap, table);
-    label(heap, table, case.source as u64, 0, nodes::NONE);
-    let reached = remove_all(heap, n, lists, table);
+    let source = case.source as u64;
+    label(heap, table, source, 0, nodes::NONE);
+    let reached = remove_all(heap, n, source, lists, table);
     Counts {
         reached,
         buckets: heap.buckets,

@@ -1,5 +1,5 @@
 // A planning file read into the lists of a map, and the text that `plan` prints of it (document 01, "Planning file" and "What a call
-// returns").
+// returns"). Its five-field header means holds of 0 (document 02, paper 2).
 use crate::printing;
 use crate::printing::Numbers;
 use crate::printing::Text;
@@ -37,7 +37,8 @@ fn number_refusal(header: Header) -> u64 {
     0
 }
 
-// 11, then those of its numbers, then 10 with the words that `plan` lends.
+// 11, then those of its numbers, then 10 with the words that `plan` lends. Of the holds it lends 512: where these are too few, so are the
+// starts.
 fn header_refusal(header: Header) -> Refusal {
     if header.next == reading::NOWHERE {
         return refuse(11, 1);
@@ -111,7 +112,15 @@ fn read_arcs(bytes: &[u8], header: Header, lists: &mut Lists) -> Refusal {
     refuse(0, 0)
 }
 
-// What a file with this line 1 is refused for; its arcs are put into the lists, of which the first word is 0.
+fn clear_holds(n: u64, lists: &mut Lists) {
+    let mut v = 0;
+    while v < n {
+        map::set(lists, map::HOLDS, v, 0);
+        v += 1;
+    }
+}
+
+// What a file with this line 1 is refused for; its arcs and holds are put into the lists, of which the first word is 0.
 pub fn read(bytes: &[u8], header: Header, lists: &mut Lists) -> Refusal {
     if bytes.len() > 65536 {
         return refuse(13, 0);
@@ -120,6 +129,7 @@ pub fn read(bytes: &[u8], header: Header, lists: &mut Lists) -> Refusal {
     if found.number != 0 {
         return found;
     }
+    clear_holds(header.nodes, lists);
     read_arcs(bytes, header, lists)
 }
 
@@ -135,6 +145,7 @@ pub fn case_of(header: Header) -> Case {
         starts: 513,
         heads: arcs,
         costs: arcs,
+        holds: nodes,
         distances: 512,
         parents: 512,
         roster: 512,

@@ -1,4 +1,5 @@
-// A run's numbers and the words lent of each of its lists (document 01, "What the planner holds and leaves out").
+// A run's numbers and the words lent of each of its lists (document 01, "What the planner holds and leaves out", and for the holds document
+// 02, paper 2).
 pub struct Case {
     pub nodes: u32,
     pub ceiling: u32,
@@ -7,6 +8,7 @@ pub struct Case {
     pub starts: u32,
     pub heads: u32,
     pub costs: u32,
+    pub holds: u32,
     pub distances: u32,
     pub parents: u32,
     pub roster: u32,

@@ -1,7 +1,7 @@
 // A table of what the references keep: rows of 4,096 numbers, most of them with a number for each node.
 use crate::words;
 
-pub type Table = [u64; 45056];
+pub type Table = [u64; 49152];
 
 pub const DISTANCE: u64 = 0;
 
@@ -25,6 +25,8 @@ pub const BUCKET: u64 = 8;
 pub const BOUND: u64 = 9;
 // What the steps count.
 pub const COUNT: u64 = 10;
+// What the cheapest walk of one arc or more costs.
+pub const WALK: u64 = 11;
 
 // What a node is marked as.
 pub const UNLABELLED: u64 = 0;
@@ -42,7 +44,7 @@ fn place(row: u64, v: u64) -> usize {
 
 pub fn get(table: &Table, row: u64, v: u64) -> u64 {
     let i = place(row, v);
-    if i < 45056 {
+    if i < 49152 {
         return table[i];
     }
     0
@@ -50,7 +52,7 @@ pub fn get(table: &Table, row: u64, v: u64) -> u64 {
 
 pub fn set(table: &mut Table, row: u64, v: u64, number: u64) {
     let i = place(row, v);
-    if i < 45056 {
+    if i < 49152 {
         table[i] = number;
     }
 }

@@ -1,4 +1,4 @@
-// Dijkstra's search over arrays (document 01, "The search").
+// Dijkstra's search over arrays (document 01, "The search", with the holds of document 02, paper 2).
 use test_reference_map::map;
 use test_reference_map::map::Lists;
 use test_reference_map::nodes;
@@ -29,24 +29,31 @@ fn label(table: &mut Table, v: u64, distance: u64, parent: u64) {
     nodes::set(table, nodes::MARK, v, nodes::LABELLED);
 }
 
+// What a route has cost once it leaves node v: its distance, and its hold unless the route begins there.
+fn leaving(source: u64, lists: &Lists, table: &Table, v: u64) -> u64 {
+    let distance = nodes::get(table, nodes::DISTANCE, v);
+    if v == source {
+        return distance;
+    }
+    words::sum(distance, map::hold(lists, v))
+}
+
 // The head of an arc gets a distance that is strictly below its own, and this parent. The mark for none is above every distance.
-fn relax(lists: &Lists, table: &mut Table, tail: u64, arc: u64) {
+fn relax(lists: &Lists, table: &mut Table, spent: u64, arc: u64) {
     let head = map::head(lists, arc);
-    let distance = words::sum(
-        nodes::get(table, nodes::DISTANCE, tail),
-        map::cost(lists, arc),
-    );
+    let distance = words::sum(spent, map::cost(lists, arc));
     if distance < nodes::get(table, nodes::DISTANCE, head) {
         label(table, head, distance, arc);
     }
 }
 
 // The arcs of a node in number order.
-fn scan(lists: &Lists, table: &mut Table, v: u64) {
+fn scan(source: u64, lists: &Lists, table: &mut Table, v: u64) {
+    let spent = leaving(source, lists, table, v);
     let end = map::start(lists, words::sum(v, 1));
     let mut arc = map::start(lists, v);
     while arc < end {
-        relax(lists, table, v, arc);
+        relax(lists, table, spent, arc);
         arc += 1;
     }
 }
@@ -70,7 +77,7 @@ pub fn search(n: u64, source: u64, lists: &Lists, table: &mut Table) -> u64 {
         }
         nodes::set(table, nodes::MARK, v, nodes::SCANNED);
         nodes::set(table, nodes::ORDER, scanned, v);
-        scan(lists, table, v);
+        scan(source, lists, table, v);
         scanned += 1;
     }
     scanned

@@ -1,5 +1,6 @@
-// What a call is refused for, in the order of document 01, "What a call returns". A run has one level or two; a route, which is lent no
-// costs and of the lists by node the parents alone, is refused as a run of no level.
+// What a call is refused for, in the order of document 01, "What a call returns", with 20 and the sums of 8 of document 02, paper 2. A run
+// has one level or two; a route, which is lent no costs and no holds and of the lists by node the parents alone, is refused as a run of no
+// level.
 use test_reference_map::case::Case;
 use test_reference_map::map;
 use test_reference_map::map::Lists;
@@ -41,6 +42,32 @@ fn first_above(lists: &Lists, list: u64, count: u64, most: u64) -> u64 {
     i
 }
 
+// The tail of an arc, which is no node before the first.
+fn tail_from(n: u64, lists: &Lists, first: u64, arc: u64) -> u64 {
+    let mut v = first;
+    while v < n {
+        if arc < map::start(lists, words::sum(v, 1)) {
+            return v;
+        }
+        v += 1;
+    }
+    v
+}
+
+// 8: the least arc whose cost and its tail's hold together are above the most, the source's arcs included, or m.
+fn first_sum_above(n: u64, m: u64, lists: &Lists, most: u64) -> u64 {
+    let mut tail = 0;
+    let mut arc = 0;
+    while arc < m {
+        tail = tail_from(n, lists, tail, arc);
+        if words::sum(map::cost(lists, arc), map::hold(lists, tail)) > most {
+            return arc;
+        }
+        arc += 1;
+    }
+    arc
+}
+
 // 1 to 4; 0 for none.
 fn number_refusal(run: bool, case: Case) -> u64 {
     let n = case.nodes;
@@ -60,8 +87,8 @@ fn number_refusal(run: bool, case: Case) -> u64 {
     0
 }
 
-// 5, 6 and 7.
-fn arc_refusal(case: Case, lists: &Lists) -> Refusal {
+// 5 and 6.
+fn start_refusal(case: Case, lists: &Lists) -> Refusal {
     let n = case.nodes as u64;
     let m = case.heads as u64;
     let words_of_starts = words::sum(n, 1);
@@ -72,6 +99,26 @@ fn arc_refusal(case: Case, lists: &Lists) -> Refusal {
     if start < words_of_starts {
         return refuse(6, start);
     }
+    refuse(0, 0)
+}
+
+// 20 of a run: holds not n words, or the least node whose hold is above the ceiling.
+fn hold_refusal(case: Case, lists: &Lists) -> Refusal {
+    let n = case.nodes as u64;
+    if case.holds as u64 != n {
+        return refuse(20, 0);
+    }
+    let node = first_above(lists, map::HOLDS, n, case.ceiling as u64);
+    if node < n {
+        return refuse(20, node);
+    }
+    refuse(0, 0)
+}
+
+// 7.
+fn head_refusal(case: Case, lists: &Lists) -> Refusal {
+    let n = case.nodes as u64;
+    let m = case.heads as u64;
     let head = first_above(lists, map::HEADS, m, words::minus(n, 1));
     if head < m {
         return refuse(7, head);
@@ -82,9 +129,9 @@ fn arc_refusal(case: Case, lists: &Lists) -> Refusal {
 // 8 and 9 of a run.
 fn cost_refusal(levels: u32, case: Case, lists: &Lists) -> Refusal {
     let m = case.costs as u64;
-    let cost = first_above(lists, map::COSTS, m, case.ceiling as u64);
-    if cost < m {
-        return refuse(8, cost);
+    let arc = first_sum_above(case.nodes as u64, m, lists, case.ceiling as u64);
+    if arc < m {
+        return refuse(8, arc);
     }
     let segments = case.segments;
     if (levels == 2) & ((segments < 2) | (segments > 64)) {
@@ -121,21 +168,40 @@ fn lent_refusal(levels: u32, case: Case) -> Refusal {
     refuse(0, 0)
 }
 
-// The first of 1 to 10.
+// The words of a run: 20, 7, 8 and 9.
+fn run_refusal(levels: u32, case: Case, lists: &Lists) -> Refusal {
+    let found = hold_refusal(case, lists);
+    if found.number != 0 {
+        return found;
+    }
+    let found = head_refusal(case, lists);
+    if found.number != 0 {
+        return found;
+    }
+    cost_refusal(levels, case, lists)
+}
+
+// Of a route 7 alone.
+fn word_refusal(levels: u32, case: Case, lists: &Lists) -> Refusal {
+    if levels == 0 {
+        return head_refusal(case, lists);
+    }
+    run_refusal(levels, case, lists)
+}
+
+// The first of 1 to 6, 20, and 7 to 10.
 pub fn refusal(levels: u32, case: Case, lists: &Lists) -> Refusal {
     let number = number_refusal(levels != 0, case);
     if number != 0 {
         return refuse(number, 0);
     }
-    let found = arc_refusal(case, lists);
+    let found = start_refusal(case, lists);
     if found.number != 0 {
         return found;
     }
-    if levels != 0 {
-        let found = cost_refusal(levels, case, lists);
-        if found.number != 0 {
-            return found;
-        }
+    let found = word_refusal(levels, case, lists);
+    if found.number != 0 {
+        return found;
     }
     lent_refusal(levels, case)
 }

@@ -62,14 +62,24 @@ fn walk_back(case: Case, lists: &Lists, table: &mut Table, destination: u64) -> 
     0
 }
 
-// What a route costs: the costs of its nodes' parents, the source's left out.
+// What a route pays at the node at a place of it: its hold strictly between the ends, of which the source stands last.
+fn hold_at(nodes_of_route: u64, i: u64, lists: &Lists, table: &Table) -> u64 {
+    if words::sum(i, 1) >= nodes_of_route {
+        return 0;
+    }
+    map::hold(lists, nodes::get(table, nodes::ROUTE, i))
+}
+
+// What a route costs: the costs of its nodes' parents, the source's left out, and the holds of the nodes strictly between its ends (document
+// 02, paper 2).
 pub fn cost(nodes_of_route: u64, lists: &Lists, table: &Table) -> u64 {
     let mut total = 0;
     let mut i = 1;
     while i < nodes_of_route {
         let v = nodes::get(table, nodes::ROUTE, words::minus(i, 1));
         let arc = nodes::get(table, nodes::PARENT, v);
-        total = words::sum(total, map::cost(lists, arc));
+        let hold = hold_at(nodes_of_route, i, lists, table);
+        total = words::sum(total, words::sum(map::cost(lists, arc), hold));
         i += 1;
     }
     total

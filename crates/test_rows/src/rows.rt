@@ -24,13 +24,16 @@ pub struct Field {
     pub next: usize,
 }
 
-// A number takes one digit more; a word counts as its first letter.
+// A number takes one digit more; a word counts as its first letter and 256 times its second.
 fn longer(value: u32, byte: u8) -> u32 {
     if byte <= b'9' {
         return ((value as u64 * 10 + (byte % 16) as u64) % 4294967296) as u32;
     }
     if value == 0 {
         return byte as u32;
+    }
+    if value < 256 {
+        return value + 256 * byte as u32;
     }
     value
 }
@@ -65,6 +68,7 @@ pub struct Row {
     pub n9: u32,
     pub n10: u32,
     pub n11: u32,
+    pub n12: u32,
     pub text: usize,
     pub after: usize,
     pub words: usize,
@@ -83,6 +87,7 @@ pub fn row_of(line: &[u8]) -> Row {
     let f9 = field_at(line, f8.next);
     let f10 = field_at(line, f9.next);
     let f11 = field_at(line, f10.next);
+    let f12 = field_at(line, f11.next);
     Row {
         word: (word.value % 256) as u8,
         n1: f1.value,
@@ -96,6 +101,7 @@ pub fn row_of(line: &[u8]) -> Row {
         n9: f9.value,
         n10: f10.value,
         n11: f11.value,
+        n12: f12.value,
         text: word.next,
         after: f1.next,
         words: f2.next,

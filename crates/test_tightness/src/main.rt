@@ -1,6 +1,7 @@
 // How near to the bounds of docs/DATASHEET.md the counts of a run come, on maps built to be bad: nodes that fall through every bucket, arcs
-// that are all decreases, removals that look at every bucket or at every segment. A line for each map and heap: r, m, B and the segments
-// looked at, then for decreases, placements and looks the count, its bound, and how many thousandths of the bound it is.
+// that are all decreases, removals that look at every bucket or at every segment. No node has a hold, which would come in as a cost does
+// (document 02, paper 2). A line for each map and heap: r, m, B and the segments looked at, then for decreases, placements and looks the
+// count, its bound, and how many thousandths of the bound it is.
 use model::Node;
 use model::RunAnswer;
 
@@ -88,7 +89,15 @@ fn print_run(name: &[u8], heap: &[u8], arcs: u64, segments: u32, answer: RunAnsw
     io::write_all(1, b"\n");
 }
 
-fn run_one_level(name: &[u8], n: u32, ceiling: u32, starts: &[u32], heads: &[u32], costs: &[u32]) {
+fn run_one_level(
+    name: &[u8],
+    n: u32,
+    ceiling: u32,
+    starts: &[u32],
+    heads: &[u32],
+    costs: &[u32],
+    holds: &[u32],
+) {
     let mut distances = [0u32; 4096];
     let mut parents = [0u32; 4096];
     let mut roster = [0u32; 4096];
@@ -100,6 +109,7 @@ fn run_one_level(name: &[u8], n: u32, ceiling: u32, starts: &[u32], heads: &[u32
         starts,
         heads,
         costs,
+        holds,
         &mut distances,
         &mut parents,
         &mut roster,
@@ -116,6 +126,7 @@ fn run_two_level(
     starts: &[u32],
     heads: &[u32],
     costs: &[u32],
+    holds: &[u32],
 ) {
     let mut distances = [0u32; 4096];
     let mut parents = [0u32; 4096];
@@ -129,6 +140,7 @@ fn run_two_level(
         starts,
         heads,
         costs,
+        holds,
         &mut distances,
         &mut parents,
         &mut roster,
@@ -145,9 +157,10 @@ fn run_both(
     starts: &[u32],
     heads: &[u32],
     costs: &[u32],
+    holds: &[u32],
 ) {
-    run_one_level(name, n, ceiling, starts, heads, costs);
-    run_two_level(name, n, ceiling, segments, starts, heads, costs);
+    run_one_level(name, n, ceiling, starts, heads, costs, holds);
+    run_two_level(name, n, ceiling, segments, starts, heads, costs, holds);
 }
 
 // The words first, first + 1, first + 2 and so on.
@@ -200,6 +213,7 @@ fn fall_by_halves() {
     count_up(&mut heads, 1);
     let mut costs = [1048575u32; 4095];
     approach(&mut costs, 1, 1048577, 1048576, 2);
+    let holds = [0u32; 4096];
     run_both(
         b"falling through buckets of one level",
         4096,
@@ -208,6 +222,7 @@ fn fall_by_halves() {
         &starts,
         &heads,
         &costs,
+        &holds,
     );
 }
 
@@ -222,6 +237,7 @@ fn fall_by_segments() {
     costs[0] = 1048575;
     approach(&mut costs, 2, 1017921, 32768, 32);
     costs[1] = 33825;
+    let holds = [0u32; 4096];
     run_both(
         b"falling through buckets of two levels",
         4096,
@@ -230,6 +246,7 @@ fn fall_by_segments() {
         &starts,
         &heads,
         &costs,
+        &holds,
     );
 }
 
@@ -241,6 +258,7 @@ fn look_at_every_bucket() {
     let mut heads = [0u32; 4095];
     count_up(&mut heads, 1);
     let costs = [1048575u32; 4095];
+    let holds = [0u32; 4096];
     run_both(
         b"looks at every bucket",
         4096,
@@ -249,6 +267,7 @@ fn look_at_every_bucket() {
         &starts,
         &heads,
         &costs,
+        &holds,
     );
 }
 
@@ -259,6 +278,7 @@ fn look_at_every_segment() {
     let mut heads = [0u32; 4095];
     count_up(&mut heads, 1);
     let costs = [63u32; 4095];
+    let holds = [0u32; 4096];
     run_both(
         b"looks at every segment",
         4096,
@@ -267,6 +287,7 @@ fn look_at_every_segment() {
         &starts,
         &heads,
         &costs,
+        &holds,
     );
 }
 
@@ -323,6 +344,7 @@ fn decrease_at_every_arc() {
     pair_up(&mut starts, &mut heads, &mut costs);
     starts[0] = 0;
     starts[362] = 65341;
+    let holds = [0u32; 362];
     run_both(
         b"every arc a decrease",
         362,
@@ -331,6 +353,7 @@ fn decrease_at_every_arc() {
         &starts,
         &heads,
         &costs,
+        &holds,
     );
 }
 

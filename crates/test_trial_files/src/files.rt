@@ -1,4 +1,5 @@
-// The text for planning files beside the reference's, byte for byte, and the lists lent, word for word (document 01, "Planning file").
+// The text for planning files beside the reference's, byte for byte, and the lists lent, word for word (document 01, "Planning file", and
+// for the holds document 02, paper 2).
 use crate::expected;
 use crate::expected::Printed;
 use crate::rendering;
@@ -24,6 +25,7 @@ struct Answered {
     starts: [u32; 513],
     heads: ByArc,
     costs: ByArc,
+    holds: ByNode,
     distances: ByNode,
     parents: ByNode,
     roster: ByNode,
@@ -35,6 +37,7 @@ fn answer(bytes: &[u8]) -> Answered {
     let mut starts = [lists::STARTS; 513];
     let mut heads = [lists::HEADS; 2048];
     let mut costs = [lists::COSTS; 2048];
+    let mut holds = [lists::HOLDS; 512];
     let mut distances = [lists::DISTANCES; 512];
     let mut parents = [lists::PARENTS; 512];
     let mut roster = [lists::ROSTER; 512];
@@ -44,6 +47,7 @@ fn answer(bytes: &[u8]) -> Answered {
         &mut starts,
         &mut heads,
         &mut costs,
+        &mut holds,
         &mut distances,
         &mut parents,
         &mut roster,
@@ -56,6 +60,7 @@ fn answer(bytes: &[u8]) -> Answered {
         starts,
         heads,
         costs,
+        holds,
         distances,
         parents,
         roster,
@@ -79,8 +84,9 @@ fn differing(one: &[u8; 33280], two: &Text) -> u64 {
 }
 
 // How many words of the map's lists are not as the file is to leave them, where so many are filled.
-fn differing_map(starts: u64, arcs: u64, answered: Answered, lists: &Lists) -> u64 {
-    let m = (arcs % 4294967296) as u32;
+fn differing_map(starts: u64, printed: Printed, answered: Answered, lists: &Lists) -> u64 {
+    let n = (printed.nodes % 4294967296) as u32;
+    let m = (printed.arcs % 4294967296) as u32;
     let words_of_starts = (starts % 4294967296) as u32;
     let filled = lists::part(lists, map::STARTS, words_of_starts);
     let in_starts = lists::not_words(&answered.starts, lists::STARTS, filled);
@@ -88,7 +94,12 @@ fn differing_map(starts: u64, arcs: u64, answered: Answered, lists: &Lists) -> u
     let in_heads = lists::not_words(&answered.heads, lists::HEADS, filled);
     let filled = lists::part(lists, map::COSTS, m);
     let in_costs = lists::not_words(&answered.costs, lists::COSTS, filled);
-    words::sum(in_starts, words::sum(in_heads, in_costs))
+    let filled = lists::part(lists, map::HOLDS, n);
+    let in_holds = lists::not_words(&answered.holds, lists::HOLDS, filled);
+    words::sum(
+        words::sum(in_starts, in_heads),
+        words::sum(in_costs, in_holds),
+    )
 }
 
 // The same of the runs' lists.
@@ -120,7 +131,8 @@ fn filled(printed: Printed, by_node: u64, more: u64) -> u64 {
     words::sum(words::product(by_node, printed.nodes), more)
 }
 
-// How many bytes of the text and words of the lists are not as they are expected: n + 1, m, m, n, n, r and 4n + 384 words are filled.
+// How many bytes of the text and words of the lists are not as they are expected: n + 1, m, m, n, n, n, r and 4n + 384 words are
+// filled.
 fn differences(
     printed: Printed,
     answered: Answered,
@@ -133,15 +145,15 @@ fn differences(
     let cleared = filled(printed, 4, 384);
     let in_length = lists::differ(answered.length as u64, printed.length);
     let in_text = differing(&answered.output, text);
-    let in_map = differing_map(starts, printed.arcs, answered, lists);
+    let in_map = differing_map(starts, printed, answered, lists);
     let in_run = differing_run(n, printed.reached, cleared, answered, table);
     words::sum(words::sum(in_length, in_text), words::sum(in_map, in_run))
 }
 
 // Both texts of a file.
 fn compare(file: Rendered) -> Found {
-    let mut lists = [0u32; 135192];
-    let mut table = [0u64; 45056];
+    let mut lists = [0u32; 139296];
+    let mut table = [0u64; 49152];
     let mut text = [88u8; 65544];
     let bytes = file.bytes;
     let input = test_damage::front(&bytes, file.length);

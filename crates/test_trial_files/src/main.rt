@@ -21,7 +21,7 @@ fn try_family(damaged: bool, count: u32, found: &mut Table) -> u64 {
 }
 
 fn main() {
-    let mut found = [0u64; 45056];
+    let mut found = [0u64; 49152];
     let differences = try_family(false, 300, &mut found);
     io::write_all(1, b"planning files");
     tallies::print_found(300, differences);

@@ -2,6 +2,7 @@
 use test_damage::Rendered;
 use test_generated::case;
 use test_generated::edges;
+use test_generated::holds;
 use test_generated::lists;
 use test_generated::maps;
 use test_generated::random;
@@ -89,9 +90,10 @@ fn with_edges(case: Case, number: u32, word: u64, lists: &mut Lists) -> Case {
 
 // The file of a number, with edges in it if they are asked for.
 pub fn render_number(number: u32, edged: bool) -> Rendered {
-    let mut lists = [lists::MAP; 135192];
+    let mut lists = [lists::MAP; 139296];
     let map = maps::small(maps::RANDOM, std::num::wrapping_add_u32(number, 300000));
     let arcs = maps::fill(map, &mut lists);
+    holds::fill(map, holds::ZERO, 0, &mut lists);
     let case = case::of_map(map, arcs, 0);
     let n = map.nodes as u64;
     if edged {

@@ -1,4 +1,4 @@
-// What a run is expected to give: its refusal, or by both references its numbers and a table of its nodes.
+// What a run is expected to give: its refusal, or by the references its numbers and a table of its nodes.
 use test_generated::lists;
 use test_reference_counts::recount;
 use test_reference_map::case::Case;
@@ -8,9 +8,10 @@ use test_reference_map::nodes::Table;
 use test_reference_map::words;
 use test_reference_search::dijkstra;
 use test_reference_search::refusals;
+use test_reference_search::walks;
 
-// `highest` is the highest bucket that a removal used. The differing nodes are those at which the two references do not agree, of which
-// there are none.
+// `highest` is the highest bucket that a removal used. The differing nodes are those at which the references do not agree, of which there
+// are none.
 pub struct Expected {
     pub number: u64,
     pub place: u64,
@@ -40,7 +41,8 @@ fn all_differing(n: u64, reached: u64, table: &Table) -> u64 {
     let distances = differing(table, nodes::DISTANCE, nodes::STEP_DISTANCE, n);
     let parents = differing(table, nodes::PARENT, nodes::STEP_PARENT, n);
     let order = differing(table, nodes::ORDER, nodes::STEP_ORDER, reached);
-    words::sum(words::sum(distances, parents), order)
+    let walks = differing(table, nodes::DISTANCE, nodes::WALK, n);
+    words::sum(words::sum(distances, parents), words::sum(order, walks))
 }
 
 fn refused(number: u64, place: u64) -> Expected {
@@ -64,7 +66,9 @@ pub fn run(levels: u32, case: Case, lists: &Lists, table: &mut Table) -> Expecte
         return refused(found.number, found.place);
     }
     let n = case.nodes as u64;
-    let reached = dijkstra::search(n, case.source as u64, lists, table);
+    let source = case.source as u64;
+    let reached = dijkstra::search(n, source, lists, table);
+    walks::cheapest(n, source, lists, table);
     let counts = recount::run(levels, case, lists, table);
     Expected {
         number: 0,

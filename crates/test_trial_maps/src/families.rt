@@ -1,10 +1,13 @@
-// The families of maps: how many each has, and the numbers of each map (document 01, "Edges").
+// The families of maps: how many each has, the numbers of each map (document 01, "Edges"), and its holds (document 02, paper 2).
 use crate::expected::Expected;
+use test_generated::edges;
+use test_generated::holds;
 use test_generated::lists;
 use test_generated::maps;
 use test_generated::maps::Map;
 use test_generated::random;
 use test_reference_map::case::Case;
+use test_reference_map::map::Lists;
 use test_reference_map::words;
 
 pub const RANDOM: u32 = 0;
@@ -45,6 +48,12 @@ pub const ROUTES_AT_EDGES: u32 = 17;
 
 pub const FAMILIES: u32 = 18;
 
+// Behind the rules of test_generated::holds: any holds, and at an edge the length of their list, one of them, or by rule 7 the sum of an
+// arc.
+const LENGTH_AT_EDGE: u32 = 5;
+
+const HOLD_AT_EDGE: u32 = 6;
+
 // How many maps a family has.
 pub fn count(family: u32) -> u32 {
     match family {
@@ -60,6 +69,26 @@ pub fn count(family: u32) -> u32 {
         RUNS_AT_EDGES | ROUTES_AT_EDGES => 2000,
         _ => 4,
     }
+}
+
+// How many of them have holds besides: each one, and each of the few large ones by every rule.
+pub fn count_with_holds(family: u32) -> u32 {
+    match family {
+        MOST_NODES | MOST_ARCS => 28,
+        _ => count(family),
+    }
+}
+
+pub fn number_with_holds(family: u32, i: u32) -> u32 {
+    match family {
+        MOST_NODES | MOST_ARCS => i / 7,
+        _ => i,
+    }
+}
+
+// The seven rules in turn, behind the one that gives no hold.
+pub fn rule_of(i: u32) -> u32 {
+    (i % 7 + i / 7 % 7) % 7 + 1
 }
 
 // One of several names that stand one behind the other, each ended by a bar.
@@ -136,7 +165,8 @@ fn from_first(rule: u32, number: u32) -> Map {
     map
 }
 
-// 2 to 50 nodes, and last the most that have no more than 65,536 arcs. The costs grow with the nodes.
+// 2 to 50 nodes, and last the most that have no more than 65,536 arcs. The costs grow with the nodes, and with a hold below their factor
+// none is above the ceiling.
 fn all_decreases(number: u32) -> Map {
     let mut map = maps::small(maps::ALL_DECREASES, number);
     let size = number % 50;
@@ -146,7 +176,7 @@ fn all_decreases(number: u32) -> Map {
     map.ceiling = 1048575;
     if size == 49 {
         map.nodes = 362;
-        map.measure = 1454;
+        map.measure = 1452;
     }
     map
 }
@@ -241,9 +271,46 @@ pub fn map_of(family: u32, number: u32) -> Map {
     }
 }
 
+// The most that a hold may be. Where every arc is a decrease it is below the factor of the costs, and then every arc still is one.
+fn most_hold(family: u32, map: Map) -> u32 {
+    if family == ALL_DECREASES {
+        return maps::minus(map.measure, 1);
+    }
+    map.ceiling
+}
+
+// The case of a map with holds by a rule.
+pub fn with_holds(family: u32, rule: u32, map: Map, case: Case, lists: &mut Lists) -> Case {
+    let word = random::next(map.seed);
+    let most = most_hold(family, map);
+    if rule < holds::RULES {
+        holds::fill(map, rule, most, lists);
+        return case;
+    }
+    holds::fill(map, holds::ANY, most, lists);
+    match rule {
+        LENGTH_AT_EDGE => edges::numbers(case, 20, word),
+        HOLD_AT_EDGE => with_word(case, 20, word, lists),
+        _ => with_word(case, 8, word, lists),
+    }
+}
+
+fn with_word(case: Case, refusal: u32, word: u64, lists: &mut Lists) -> Case {
+    edges::words(case, refusal, word, lists);
+    case
+}
+
+// Whether a rule puts the map to an edge.
+pub fn at_edge(rule: u32) -> bool {
+    rule >= LENGTH_AT_EDGE
+}
+
 // 1 if a run is not what its family is for: a removal uses bucket B of a chain's heap, and of the maps whose arcs are all decreases only the
 // first arc to each node is none.
-pub fn shape_fault(family: u32, case: Case, expected: Expected) -> u64 {
+pub fn shape_fault(family: u32, rule: u32, case: Case, expected: Expected) -> u64 {
+    if at_edge(rule) {
+        return 0;
+    }
     match family {
         CHAINS => lists::differ(expected.highest, expected.buckets),
         ALL_DECREASES => lists::differ(

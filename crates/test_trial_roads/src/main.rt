@@ -8,7 +8,7 @@ use test_reference_map::words;
 mod trial;
 
 fn try_family(name: &[u8], whole: bool, count: u32) {
-    let mut found = [0u64; 45056];
+    let mut found = [0u64; 49152];
     let mut differences = 0;
     let mut number = 0;
     while number < count {

@@ -109,7 +109,7 @@ fn differing_words(outcome: Outcome, answered: Answered, lists: &Lists) -> u64 {
 }
 
 fn compare(road: Road, file: Rendered) -> Found {
-    let mut lists = [0u32; 135192];
+    let mut lists = [0u32; 139296];
     let bytes = file.bytes;
     let input = test_damage::front(&bytes, file.length);
     let outcome = expected(road, input, &mut lists);

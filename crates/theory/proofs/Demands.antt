@@ -21,7 +21,7 @@ use Rattle.theory.proofs.Heap.Run.{heap-search, heap-ends, heap-looks, 
 use Rattle.theory.proofs.Shapes.OneLevel.{lawful-one}
 use Rattle.theory.proofs.Shapes.TwoLevel.{lawful-two}
 use Rattle.theory.proofs.Maps.Arcs.{map-admissible}
-use Rattle.theory.proofs.Maps.Routes.{path-route, route-path, spelled-route, spelled-path-route, spelled-once}
+use Rattle.theory.proofs.Maps.Routes.{path-route, source-path, spelled-route, spelled-path-route, spelled-once}
 
 module _ {M : Map} {C source : ℕ} (valid : Valid M C source) where
   abbrev N : Network
@@ -29,11 +29,10 @@ module _ {M : Map} {C source : ℕ} (valid : Valid M C source) where
 
   -- A node is reached by a route exactly if it is by a path.
   path-reached : (v c : ℕ) → Path N v c → Reached M source v
-  path-reached v c p = let r = path-route p in (r .0, r .1)
+  path-reached v c p = path-route p
 
   reached-path : (v : ℕ) → Reached M source v → (c : ℕ) × Path N v c
-  unfolding network
-  reached-path v r = (_, route-path source 0 (r .1) Path.here)
+  reached-path v r = let q = source-path (r .1) in (q .0, q .1)
 
   -- Cheapest paths are cheapest routes.
   pub paths-routes : (distances parents : List ℕ) → CheapestPaths N distances parents → CheapestRoutes M source distances parents
@@ -44,7 +43,7 @@ module _ {M : Map} {C source : ℕ} (valid : Valid M C source) where
     spelled = λ v h n. spelled-path-route (c .spelled v h n);
     spelled-once = spelled-once (valid .sound);
     spelled-route = λ v route r. spelled-route r;
-    least = λ v route r. omega (arith, c .least v _ (route-path source 0 r Path.here));
+    least = λ v route r. let q = source-path r in omega (arith, c .least v (q .0) (q .1), q .2);
     unreached = λ v h. (
       λ e r. let p = reached-path v r in c .unreached v h .0 e (p .0) (p .1),
       λ no-route. c .unreached v h .1 (λ cost p. no-route (path-reached v cost p)),

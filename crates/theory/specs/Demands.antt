@@ -22,8 +22,8 @@ pub record CheapestRoutes (M : Map) (source : ℕ) (distances parents : List ℕ
   pub source-parent : parentOf parents source ≡ none
   pub unreached-parent : (v : ℕ) → v < M .nodes → distanceOf distances v ≡ none → parentOf parents v ≡ none
 
--- What demand 2 says of the distances alone. `Joins v c`: a route of cost c joins node v and the run's own node, from the source or to it
--- (document 01, "Routes").
+-- What demand 2 says of the distances alone. `Joins v c`: a route of cost c leads from the run's own node to node v or, where a run finds
+-- costs to its own node, from v to it (document 01, "Routes"; document 02, papers 2 and 7).
 pub record CheapestCosts (Joins : (v c : ℕ) → Type 0) (n : ℕ) (distances : List ℕ) : Type 0 where
   pub found : (v : ℕ) → v < n → (distanceOf distances v ≡ none → ⊥) → Joins v (distanceOf distances v)
   pub least : (v c : ℕ) → Joins v c → distanceOf distances v ≤ c

@@ -1,5 +1,5 @@
 -- The marked edges (document 01, "Edges, marked * where proved") as one table, with rows of our own behind them: what a heap
--- does at its last bucket, and where the minimum with nC + 1 acts for n ≥ 2.
+-- does at its last bucket, where the minimum with nC + 1 acts for n ≥ 2, and runs with holds (document 02, paper 2).
 use Prim.Native.Nat.{ℕ}
 use mathlib.Core.List.{List, [], _∷_}
 use lib.ListN.{length}
@@ -34,29 +34,45 @@ listing = record {
   starts = 0 ∷ 3 ∷ 3 ∷ 5 ∷ 6 ∷ 7 ∷ [];
   heads = 1 ∷ 2 ∷ 3 ∷ 1 ∷ 3 ∷ 1 ∷ 0 ∷ [];
   costs = 9 ∷ 4 ∷ 6 ∷ 4 ∷ 2 ∷ 0 ∷ 1 ∷ [];
+  holds = 0 ∷ 0 ∷ 0 ∷ 0 ∷ 0 ∷ [];
 }
 
 -- One node and no arc (document 01, "Edges, marked * where proved").
 abbrev pub oneNode : Map
-oneNode = record { nodes = 1; starts = 0 ∷ 0 ∷ []; heads = []; costs = [] }
+oneNode = record { nodes = 1; starts = 0 ∷ 0 ∷ []; heads = []; costs = []; holds = 0 ∷ [] }
 
 -- Arcs 0→1 and 1→0, both of cost 0 (document 01, "Edges, marked * where proved").
 abbrev pub zeroPair : Map
-zeroPair = record { nodes = 2; starts = 0 ∷ 1 ∷ 2 ∷ []; heads = 1 ∷ 0 ∷ []; costs = 0 ∷ 0 ∷ [] }
+zeroPair = record { nodes = 2; starts = 0 ∷ 1 ∷ 2 ∷ []; heads = 1 ∷ 0 ∷ []; costs = 0 ∷ 0 ∷ []; holds = 0 ∷ 0 ∷ [] }
 
 -- Arcs 0→1 and 1→2 of cost 1, into the last bucket of two levels where C is 1 and K is 2; ours.
 abbrev pub lowChain : Map
-lowChain = record { nodes = 3; starts = 0 ∷ 1 ∷ 2 ∷ 2 ∷ []; heads = 1 ∷ 2 ∷ []; costs = 1 ∷ 1 ∷ [] }
+lowChain = record { nodes = 3; starts = 0 ∷ 1 ∷ 2 ∷ 2 ∷ []; heads = 1 ∷ 2 ∷ []; costs = 1 ∷ 1 ∷ []; holds = 0 ∷ 0 ∷ 0 ∷ [] }
 
 -- Arcs 0→1 and 1→2 of cost 4, into the last bucket of one level where C is 4; ours.
 abbrev pub highChain : Map
-highChain = record { nodes = 3; starts = 0 ∷ 1 ∷ 2 ∷ 2 ∷ []; heads = 1 ∷ 2 ∷ []; costs = 4 ∷ 4 ∷ [] }
+highChain = record { nodes = 3; starts = 0 ∷ 1 ∷ 2 ∷ 2 ∷ []; heads = 1 ∷ 2 ∷ []; costs = 4 ∷ 4 ∷ []; holds = 0 ∷ 0 ∷ 0 ∷ [] }
 
 -- Arc 0→1 of cost 1: with C 1 and K 64 the minimum with nC + 1 acts at n 2; ours.
 abbrev pub oneArc : Map
-oneArc = record { nodes = 2; starts = 0 ∷ 1 ∷ 1 ∷ []; heads = 1 ∷ []; costs = 1 ∷ [] }
+oneArc = record { nodes = 2; starts = 0 ∷ 1 ∷ 1 ∷ []; heads = 1 ∷ []; costs = 1 ∷ []; holds = 0 ∷ 0 ∷ [] }
 
--- A row of the table: a question and the answer that document 01 gives.
+-- The listing's map with holds: to node 3 leads a route through node 2, whose hold makes it dearer than the arc from the source (document 02,
+-- paper 2; the holds are ours).
+abbrev pub heldListing : Map
+heldListing = record {
+  nodes = 5;
+  starts = 0 ∷ 3 ∷ 3 ∷ 5 ∷ 6 ∷ 7 ∷ [];
+  heads = 1 ∷ 2 ∷ 3 ∷ 1 ∷ 3 ∷ 1 ∷ 0 ∷ [];
+  costs = 9 ∷ 4 ∷ 6 ∷ 4 ∷ 2 ∷ 0 ∷ 1 ∷ [];
+  holds = 0 ∷ 0 ∷ 1 ∷ 2 ∷ 0 ∷ [];
+}
+
+-- Arcs 0→1, 0→2 and 1→0 with a hold of 5 at node 0, where a route comes back to the source (document 02, paper 2; ours).
+abbrev pub heldSource : Map
+heldSource = record { nodes = 3; starts = 0 ∷ 2 ∷ 3 ∷ 3 ∷ []; heads = 1 ∷ 2 ∷ 0 ∷ []; costs = 0 ∷ 4 ∷ 0 ∷ []; holds = 5 ∷ 0 ∷ 0 ∷ [] }
+
+-- A row of the table: a question and the answer that the documents give.
 pub record Row : Type 0 where
   pub question : Question
   pub answer : Answer
@@ -86,4 +102,8 @@ edges =
     ∷ run-of one highChain 4 0 gives run 3 0 5 3 10 (0 ∷ 4 ∷ 8 ∷ []) (none ∷ 0 ∷ 1 ∷ [])
     ∷ run-of (two 2) lowChain 1 0 gives run 3 0 2 3 8 (0 ∷ 1 ∷ 2 ∷ []) (none ∷ 0 ∷ 1 ∷ [])
     ∷ run-of (two 64) oneArc 1 0 gives run 2 0 2 2 125 (0 ∷ 1 ∷ []) (none ∷ 0 ∷ [])
+    ∷ run-of one heldListing 9 0 gives run 4 1 6 6 13 (0 ∷ 8 ∷ 4 ∷ 6 ∷ none ∷ []) (none ∷ 5 ∷ 1 ∷ 2 ∷ none ∷ [])
+    ∷ run-of (two 3) heldListing 9 0 gives run 4 1 4 5 13 (0 ∷ 8 ∷ 4 ∷ 6 ∷ none ∷ []) (none ∷ 5 ∷ 1 ∷ 2 ∷ none ∷ [])
+    ∷ run-of one heldSource 9 0 gives run 3 0 6 3 6 (0 ∷ 0 ∷ 4 ∷ []) (none ∷ 0 ∷ 1 ∷ [])
+    ∷ run-of (two 2) heldSource 9 0 gives run 3 0 5 3 8 (0 ∷ 0 ∷ 4 ∷ []) (none ∷ 0 ∷ 1 ∷ [])
     ∷ []

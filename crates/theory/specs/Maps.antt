@@ -1,4 +1,4 @@
--- Maps, and routes over them with their costs (document 01, "What the planner holds and leaves out" and "Routes").
+-- Maps, and routes over them with their costs (document 01, "What the planner holds and leaves out" and "Routes"; document 02, paper 2).
 use Prim.Native.Nat.{ℕ, zero, suc, _+_, _≤_, _<_}
 use mathlib.Core.Bool.{cond}
 use mathlib.Core.Path.{_≡_}
@@ -11,17 +11,19 @@ use lib.ListN.{length, getD}
 abbrev pub none : ℕ
 none = 4294967295
 
--- A map, lent as three lists of words (document 01, "What the planner holds and leaves out").
+-- A map, lent as lists of words (document 01, "What the planner holds and leaves out"; document 02, paper 2).
 pub record Map : Type 0 where
   -- n; the nodes are numbered 0 to n - 1
   pub nodes : ℕ
   pub starts : List ℕ
   pub heads : List ℕ
   pub costs : List ℕ
+  -- a hold for each node (document 02, paper 2)
+  pub holds : List ℕ
 
 -- The map of lent lists (document 01, "What the planner holds and leaves out").
-abbrev pub mapOf : (n : ℕ) → (starts heads costs : List ℕ) → Map
-mapOf n starts heads costs = record { nodes = n; starts = starts; heads = heads; costs = costs }
+abbrev pub mapOf : (n : ℕ) → (starts heads costs holds : List ℕ) → Map
+mapOf n starts heads costs holds = record { nodes = n; starts = starts; heads = heads; costs = costs; holds = holds }
 
 -- m, the number of arcs (document 01, "What the planner holds and leaves out").
 abbrev pub arcs : Map → ℕ
@@ -38,6 +40,10 @@ headOf M a = getD (M .heads) a 0
 -- The cost of arc a (document 01, "What the planner holds and leaves out").
 abbrev pub costOf : Map → ℕ → ℕ
 costOf M a = getD (M .costs) a 0
+
+-- A hold, document 02's own term: what a route pays at node v where it passes through it (document 02, paper 2).
+abbrev pub holdOf : Map → ℕ → ℕ
+holdOf M v = getD (M .holds) v 0
 
 -- Arc a leaves node v: it is one of the numbers starts[v] up to but not including starts[v + 1] (document 01, "What the
 -- planner holds and leaves out").
@@ -64,12 +70,27 @@ pub data Route (M : Map) : ℕ → List ℕ → ℕ → Type 0 where
   here : {v : ℕ} → Route M v [] v
   along : {v w : ℕ} {route : List ℕ} (a : ℕ) → Leaves M a v → Route M (headOf M a) route w → Route M v (a ∷ route) w
 
--- A route costs the sum of its arcs' costs (document 01, "Routes").
-unfoldable pub routeCost : Map → List ℕ → ℕ
-routeCost M [] = 0
-routeCost M (a ∷ route) = costOf M a + routeCost M route
+-- The nodes strictly between the ends of a route, each visit (document 02, paper 2).
+unfoldable pub nodesBetween : Map → List ℕ → List ℕ
+nodesBetween M [] = []
+nodesBetween M (a ∷ []) = []
+nodesBetween M (a ∷ b ∷ route) = headOf M a ∷ nodesBetween M (b ∷ route)
 
--- A route of cost c joins node v to node w (document 01, "Routes").
+-- The costs of a route's arcs (document 02, paper 2).
+unfoldable pub arcsCost : Map → List ℕ → ℕ
+arcsCost M [] = 0
+arcsCost M (a ∷ route) = costOf M a + arcsCost M route
+
+-- The holds of nodes, each as often as it is listed (document 02, paper 2).
+unfoldable pub holdsCost : Map → List ℕ → ℕ
+holdsCost M [] = 0
+holdsCost M (v ∷ nodes) = holdOf M v + holdsCost M nodes
+
+-- A route costs its arcs plus the holds of the nodes strictly between its ends, each visit counted (document 02, paper 2).
+unfoldable pub routeCost : Map → List ℕ → ℕ
+routeCost M route = arcsCost M route + holdsCost M (nodesBetween M route)
+
+-- A route of cost c joins node v to node w (document 01, "Routes"; document 02, paper 2).
 abbrev pub Joined : (M : Map) → (v w c : ℕ) → Type 0
 Joined M v w c = (route : List ℕ) × Route M v route w × (routeCost M route ≡ c)
 
@@ -93,23 +114,25 @@ pub data SpelledRoute (M : Map) (source : ℕ) (parents : List ℕ) : ℕ → Li
   on : {t : ℕ} {route : List ℕ} → SpelledRoute M source parents t route → (a : ℕ) → Leaves M a t → parentOf parents (headOf M a) ≡ a
       → (source ≡ headOf M a → ⊥) → SpelledRoute M source parents (headOf M a) (route ++ (a ∷ []))
 
--- A map whose lists are in order, and a source in it: what numbers 1 and 3 to 7 leave, and nothing of what an arc costs (document 01, "What
--- a call returns").
+-- A map whose lists are in order, and a source in it: what numbers 1 and 3 to 7 and the length of 20 leave, and nothing of costs and holds
+-- but how many they are (document 01, "What a call returns"; document 02, paper 2).
 pub record Sound (M : Map) (source : ℕ) : Type 0 where
   pub some-node : 1 ≤ M .nodes
   pub few-nodes : M .nodes ≤ 4096
   pub source-node : source < M .nodes
   pub few-arcs : arcs M ≤ 65536
   pub costs-length : length (M .costs) ≡ arcs M
+  pub holds-length : length (M .holds) ≡ M .nodes
   pub starts-length : length (M .starts) ≡ suc (M .nodes)
   pub starts-first : startOf M 0 ≡ 0
   pub starts-rise : (v : ℕ) → v < M .nodes → startOf M v ≤ startOf M (suc v)
   pub starts-last : startOf M (M .nodes) ≡ arcs M
   pub heads-nodes : (a : ℕ) → a < arcs M → headOf M a < M .nodes
 
--- A map, a ceiling C and a source that a run does not refuse by numbers 1 to 8: the lists are in order, and so are the costs (document 01,
--- "What a call returns").
+-- A map, a ceiling C and a source that a run does not refuse by numbers 1 to 8 and 20: the lists are in order, no hold is above C, and no
+-- arc's cost and its tail's hold are together above C, the source's arcs included (document 01, "What a call returns"; document 02, paper 2).
 pub record Valid (M : Map) (C source : ℕ) : Type 0 where
   pub sound : Sound M source
   pub low-ceiling : C ≤ 1048575
-  pub costs-most : (a : ℕ) → a < arcs M → costOf M a ≤ C
+  pub holds-most : (v : ℕ) → v < M .nodes → holdOf M v ≤ C
+  pub sums-most : (a v : ℕ) → Leaves M a v → costOf M a + holdOf M v ≤ C

@@ -1,11 +1,13 @@
 -- A map as a search sees it: for each node the links that leave it, in order. Every theorem on the search and on the heaps is
 -- about networks; what makes a network of a map is the one place where words become links (document 000, section 1).
 use Prim.Native.Nat.{ℕ, zero, suc, _+_, _-_, _<_, _≤_}
+use mathlib.Core.Bool.{cond}
 use mathlib.Core.Path.{_≡_}
 use mathlib.Core.List.{List, [], _∷_, _++_, List·Memᴰ}
-use lib.ListN.{length}
+use lib.Dec.{eqb}
+use lib.ListN.{length, getD}
 use Rattle.theory.specs.Sums.{sumBelow}
-use Rattle.theory.specs.Maps.{Map, startOf, headOf, costOf, parentOf}
+use Rattle.theory.specs.Maps.{Map, startOf, costOf, parentOf}
 
 -- One arc, as its tail sees it: number, head and cost (document 000, section 1).
 pub record Link : Type 0 where
@@ -26,17 +28,26 @@ unfoldable pub linksFrom : (ℕ → List Link) → (a count : ℕ) → List Link
 linksFrom give a zero = []
 linksFrom give a (suc count) = give a ++ linksFrom give (suc a) count
 
--- An arc's links: one, with the arc's number, head and cost (document 01, "What the planner holds and leaves out").
-abbrev pub arcLinks : Map → ℕ → List Link
-arcLinks M a = record { arc = a; head = headOf M a; cost = costOf M a } ∷ []
+-- What an arc out of node v costs besides itself: its tail's hold, and nothing out of the source (document 02, paper 2).
+unfoldable pub tailHold : (holds : List ℕ) → (source v : ℕ) → ℕ
+tailHold holds source v = cond (eqb v source) 0 (getD holds v 0)
+
+-- The arc rule: arc a out of node v costs itself plus its tail's hold, and out of the source itself alone (document 02, paper 2).
+abbrev pub arcCost : Map → (source v a : ℕ) → ℕ
+arcCost M source v a = costOf M a + tailHold (M .holds) source v
+
+-- An arc's links, where arcs cost as `cost` says: one, with the arc's number, its head and its cost (document 01, "What the planner holds and
+-- leaves out").
+abbrev pub arcLinks : (heads : List ℕ) → (cost : ℕ → ℕ) → (a : ℕ) → List Link
+arcLinks heads cost a = record { arc = a; head = getD heads a 0; cost = cost a } ∷ []
 
 -- The network of a map: the arcs leaving node v are numbers starts[v] up to but not including starts[v + 1], taken in number
--- order (document 01, "What the planner holds and leaves out" and "The search").
+-- order, at the cost of the arc rule (document 01, "What the planner holds and leaves out" and "The search"; document 02, paper 2).
 unfoldable pub network : Map → ℕ → Network
 network M source = record {
   nodes = M .nodes;
   source = source;
-  out = λ v. linksFrom (arcLinks M) (startOf M v) (startOf M (suc v) - startOf M v);
+  out = λ v. linksFrom (arcLinks (M .heads) (arcCost M source v)) (startOf M v) (startOf M (suc v) - startOf M v);
 }
 
 -- Some path leads from the source to the node, at this cost (document 000, section 1).

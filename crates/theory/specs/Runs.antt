@@ -17,10 +17,10 @@ pub record Inputs : Type 0 where
   pub source : ℕ
 
 -- The inputs from the numbers and lists of a call (document 01, "What the planner holds and leaves out").
-abbrev pub inputs : (n C source : ℕ) → (starts heads costs : List ℕ) → Inputs
-inputs n C source starts heads costs = record { map = mapOf n starts heads costs; ceiling = C; source = source }
+abbrev pub inputs : (n C source : ℕ) → (starts heads costs holds : List ℕ) → Inputs
+inputs n C source starts heads costs holds = record { map = mapOf n starts heads costs holds; ceiling = C; source = source }
 
--- Inputs that no run refuses by numbers 1 to 8 (document 01, "What a call returns").
+-- Inputs that no run refuses by numbers 1 to 8 and 20 (document 01, "What a call returns"; document 02, paper 2).
 abbrev pub ValidInputs : Inputs → Type 0
 ValidInputs I = Valid (I .map) (I .ceiling) (I .source)
 

@@ -57,10 +57,10 @@ pub record Tailed (n : ℕ) (starts : List ℕ) (a : ℕ) : Type 0 where
   pub first : getD starts 0 0 ≤ a
   pub last : a < getD starts n 0
 
--- A map without costs, of which the lists are in order, and a parent word for each node: what the checks up to 10 show (document 01,
--- "What a call returns").
+-- A map without costs and holds, of which the lists are in order, and a parent word for each node: what the checks up to 10 show (document
+-- 01, "What a call returns").
 pub record Table (n source : ℕ) (starts heads parents : List ℕ) : Type 0 where
-  pub sound : Sound (mapOf n starts heads (replicate (length heads) 0)) source
+  pub sound : Sound (mapOf n starts heads (replicate (length heads) 0) (replicate n 0)) source
   pub long : n ≤ length parents
 
 -- A walk back from node v over such a table, with `behind` nodes to follow it and so many arcs still allowed (document 01, "Routes").

@@ -1,73 +1,45 @@
--- `checks::map_check` meets its contract: where the sizes pass, the words can be looked at. Assumes nothing.
-use mathlib.Core.Path.{sym, _∙_}
-use mathlib.Core.List.{List, [], _∷_}
-use lib.ListN.{length}
+-- `checks::map_check` meets its contract: where the lists pass, a cost can be looked at with its tail's hold. Assumes nothing.
+use mathlib.Core.Path.{_≡_, sym, _∙_}
+use mathlib.Core.List.{[], _∷_}
 use borrow.Author.Needs.{needs}
-use Rattle.model.specs.declared.Check.{Check}
-use Rattle.check_lists.specs.Lists.{startsCheck, headsCheck, costsCheck}
-use Rattle.checks.specs.Checks.{sizeChecks, mapChecks}
-use Rattle.checks.proofs.Order.{AllPass, passed-all, all-passed, one, both, stopped, gone-on}
-use Rattle.checks.proofs.Sizes.{sized}
+use Rattle.model.specs.declared.Check.the-variants.{Passed}
+use Rattle.theory.specs.Runs.{Inputs, inputs}
+use Rattle.checks.specs.Checks.{firstFault, listsChecks, tailSumsCheck, mapChecks}
+use Rattle.checks.proofs.Order.{one, stopped, gone-on}
+use Rattle.checks.proofs.Valid.{passed-ordered, ordered-summable}
 use Rattle.checks.proofs.map_check.Statement.{statement}
 use Rattle.checks.proofs.map_check.Tie as tie
 
-abbrev sizes : tie.Start → List Check
-sizes s =
-    sizeChecks (s .args .n) (s .args .ceiling) (s .args .source .0) (length (s .args .starts .now)) (length (s .args .heads .now))
-    (length (s .args .costs .now))
+abbrev given : tie.Start → Inputs
+given s =
+    inputs (s .args .n) (s .args .ceiling) (s .args .source .0) (s .args .starts .now) (s .args .heads .now) (s .args .costs .now)
+    (s .args .holds .now)
 
-abbrev words : tie.Start → List Check
-words s =
-    startsCheck (s .args .n) (length (s .args .heads .now)) (s .args .starts .now)
-    ∷ headsCheck (s .args .n) (s .args .heads .now)
-    ∷ costsCheck (s .args .ceiling) (s .args .costs .now)
-    ∷ []
-
--- The places that the answers name: the start, the sizes checked, and where they have passed.
-abbrev start : tie.After-size-check → tie.Start
+-- The places that the answers name: the start, the lists checked, and where they have passed.
+abbrev start : tie.After-lists-check → tie.Start
 start c = search needs
 
-abbrev checked : tie.After-enum-told → tie.After-size-check
+abbrev checked : tie.After-enum-told → tie.After-lists-check
 checked c = search needs
-
-abbrev entry : tie.After-first-of → tie.After-enum-told
-entry c = search needs
 
 returns : tie.Need-returns
 unfolding mapChecks
 returns c =
-    let z : tie.After-size-check = search needs in
-    stopped (sizes (start z)) (words (start z)) (z .size-check .ensures) (c .enum-told2 .given .1)
+    let z : tie.After-lists-check = search needs in
+    stopped (listsChecks (given (start z))) (tailSumsCheck (given (start z)) ∷ []) (z .lists-check .ensures) (c .enum-told2 .given .1)
 
-passed : (c : tie.After-enum-told) → AllPass (sizes (start (checked c)))
-passed c = passed-all _ (sym (checked c .size-check .ensures) ∙ c .enum-told .given .1)
+passed : (c : tie.After-enum-told) → firstFault (listsChecks (given (start (checked c)))) ≡ Passed
+passed c = sym (checked c .lists-check .ensures) ∙ c .enum-told .given .1
 
-starts-check-requires : tie.Need-starts-check-requires
-starts-check-requires c κs = sized _ _ _ _ _ _ (passed c) .1
-
-heads-check-requires : tie.Need-heads-check-requires
-heads-check-requires c κs = let p : tie.After-enum-told = search needs in sized _ _ _ _ _ _ (passed p) .0
+sums-check-requires : tie.Need-sums-check-requires
+sums-check-requires c κs = ordered-summable (passed-ordered (given (start (checked c))) (passed c))
 
 returns-2 : tie.Need-returns-2
 unfolding mapChecks
 returns-2 c =
-    let up-to-7 : tie.After-first-of = search needs in
-    let p = entry up-to-7 in
-    gone-on (sizes (start (checked p))) (all-passed (passed p))
-    (both (both (one (up-to-7 .before .before .starts-check .ensures)) (one (up-to-7 .before .heads-check .ensures)) (up-to-7 .first-of .ensures))
-    (one (c .before .costs-check .ensures)) (c .first-of2 .ensures))
+    let p : tie.After-enum-told = search needs in
+    gone-on (listsChecks (given (start (checked p)))) (passed p) (one (c .sums-check .ensures))
 
 pub map-check-spec : {M : Type 1} → statement M
 map-check-spec =
-    tie.close
-    (tie.spec
-    (λ c κs. tt)
-    (λ c. search needs)
-    (λ c. search needs)
-    returns
-    starts-check-requires
-    heads-check-requires
-    (λ c κs. tt)
-    (λ c κs. tt)
-    (λ c κs. tt)
-    returns-2)
+    tie.close (tie.spec (λ c κs. tt) (λ c. search needs) (λ c. search needs) returns sums-check-requires returns-2)

@@ -1,4 +1,5 @@
 -- `itineraries::answer_in` meets its contract. Assumes nothing.
+use native.Mathlib.Omega.{arith}
 use borrow.Author.Needs.{needs}
 use Rattle.itineraries.proofs.Answering.{too-long, read-refused, one-read, map-listed}
 use Rattle.itineraries.proofs.answer_in.Statement.{statement}
@@ -57,10 +58,12 @@ answer-in-spec =
     (λ c. search needs)
     (λ c. search needs)
     (λ c. search needs)
+    (λ c. search needs)
     returns-2
-    (λ c. search needs)
-    (λ c. search needs)
-    (λ c. search needs)
+    (λ c. let found : tie.After-nodes = search needs in omega (arith, map-read found .read .kept))
+    (λ c. let found : tie.After-nodes = search needs in omega (arith, map-read found .read .kept))
+    (λ c. let found : tie.After-nodes = search needs in omega (arith, map-read found .read .kept))
+    (λ c. let found : tie.After-nodes = search needs in omega (arith, map-read found .read .kept))
     (λ c. search needs)
     (λ c. search needs)
     (λ c. search needs)

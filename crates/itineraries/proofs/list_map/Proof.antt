@@ -34,6 +34,7 @@ list-map-spec =
     (λ c. let s : tie.Start = search needs in sym (length-take-le _ _ (s .pre .0 .starts-fit)))
     (λ c. let s : tie.Start = search needs in sym (length-take-le _ _ (s .pre .0 .heads-fit)))
     (λ c. let s : tie.Start = search needs in sym (length-take-le _ _ (s .pre .0 .costs-fit)))
+    (λ c. let s : tie.Start = search needs in sym (length-take-le _ _ (s .pre .0 .holds-fit)))
     (λ c κs. search needs)
     write-routes-requires
     (λ c. search needs)

@@ -49,6 +49,7 @@ plan-map-spec =
     (λ c. let s : tie.Start = search needs in sym (length-take-le _ _ (s .pre .0 .one-level .starts-fit)))
     (λ c. let s : tie.Start = search needs in sym (length-take-le _ _ (s .pre .0 .one-level .heads-fit)))
     (λ c. let s : tie.Start = search needs in sym (length-take-le _ _ (s .pre .0 .one-level .costs-fit)))
+    (λ c. let s : tie.Start = search needs in sym (length-take-le _ _ (s .pre .0 .one-level .holds-fit)))
     (λ c κs. search needs)
     (λ c κs. search needs)
     (λ c κs. search needs)

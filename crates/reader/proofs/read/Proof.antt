@@ -1,10 +1,13 @@
 -- `reader::read` meets its contract: nothing is written where a check fails, and the lists are filled where all pass. Assumes nothing.
 use mathlib.Core.Path.{_≡_, refl, sym, _∙_}
+use Prim.Native.Nat.{_≤_}
+use native.Mathlib.Omega.{arith}
 use lib.ListN.{length}
 use borrow.Author.Needs.{needs}
 use Rattle.reader.specs.declared.lines.HeaderLine.the-variants.{HeaderRead}
 use Rattle.reader.specs.Lines.{headerLine}
 use Rattle.reader.specs.Checking.{planCheck}
+use Rattle.reader.specs.Filling.{Fillable}
 use Rattle.reader.proofs.Answered.{header-within, no-header-promised, refused-promised, plan-check-is, fillable, read-promised}
 use Rattle.reader.proofs.read.Statement.{statement}
 use Rattle.reader.proofs.read.Tie as tie
@@ -35,7 +38,7 @@ header-read : (c : tie.After-nodes)
 header-read c = sym (asked c .header-line-at .ensures) ∙ c .nodes .given .1
 
 returns : tie.Need-returns
-returns c = no-header-promised _ _ _ _ (sym (c .before .before .header-line-at .ensures) ∙ c .enum-told .given .1)
+returns c = no-header-promised _ _ _ _ _ (sym (c .before .before .header-line-at .ensures) ∙ c .enum-told .given .1)
 
 plan-check-requires : tie.Need-plan-check-requires
 plan-check-requires c κs = let h : tie.After-nodes = search needs in header-within (entry h .args .bytes .now) (header-read h)
@@ -45,28 +48,41 @@ abbrev lists : tie.After-plan-check → tie.Start
 lists c = entry (header c)
 
 checks : (c : tie.After-plan-check)
-    → c .plan-check .result ≡ planCheck (lists c .args .bytes .now) (length (lists c .args .starts .now)) (length (lists c .args .heads .now)) (length (lists c .args .costs .now))
+    → c .plan-check .result
+    ≡ planCheck (lists c .args .bytes .now) (length (lists c .args .starts .now)) (length (lists c .args .heads .now)) (length (lists c .args .costs .now))
+    (length (lists c .args .holds .now))
 checks c =
-    c .plan-check .ensures
-    ∙ sym (plan-check-is (lists c .args .bytes .now) (lists c .args .starts .now) (lists c .args .heads .now) (lists c .args .costs .now) (header-read (header c)))
+    let l = lists c .args in
+    c .plan-check .ensures ∙ sym (plan-check-is (l .bytes .now) (l .starts .now) (l .heads .now) (l .costs .now) (l .holds .now) (header-read (header c)))
 
 returns-2 : tie.Need-returns-2
-returns-2 c = let d : tie.After-plan-check = search needs in refused-promised _ _ _ _ (sym (checks d) ∙ c .before .check .given .1)
+returns-2 c = let d : tie.After-plan-check = search needs in refused-promised _ _ _ _ _ (sym (checks d) ∙ c .before .check .given .1)
 
 -- every check has passed
+fits : (c : tie.After-enum-told2) → let l = lists (checked c) .args in
+    let fields = header (checked c) .nodes .given .0 in
+    Fillable (fields .0) (fields .1 .0) (l .bytes .now) (fields .1 .1 .1 .1 .1 .0) (l .starts .now) (l .heads .now) (l .costs .now)
+    × (fields .0 ≤ length (l .holds .now))
+fits c =
+    let d = checked c in
+    let l = lists d .args in
+    fillable (l .bytes .now) (l .starts .now) (l .heads .now) (l .costs .now) (l .holds .now) (header-read (header d))
+    (sym (d .plan-check .ensures) ∙ c .enum-told2 .given .1)
+
 fill-requires : tie.Need-fill-requires
-fill-requires c κs =
-    let p : tie.After-enum-told2 = search needs in
-    let d = checked p in
-    fillable (lists d .args .bytes .now) (lists d .args .starts .now) (lists d .args .heads .now) (lists d .args .costs .now) (header-read (header d))
-    (sym (d .plan-check .ensures) ∙ p .enum-told2 .given .1)
+fill-requires c κs = let p : tie.After-enum-told2 = search needs in fits p .0
+
+fill-between-requires : tie.Need-fill-between-requires
+fill-between-requires c κs = let p : tie.After-enum-told2 = search needs in (omega arith, omega (arith, fits p .1))
 
 returns-3 : tie.Need-returns-3
 returns-3 c =
     let filled : tie.After-fill = search needs in
+    let zeros : tie.After-fill-between = search needs in
     let d = checked (passed filled) in
-    read-promised (lists d .args .bytes .now) (lists d .args .starts .now) (lists d .args .heads .now) (lists d .args .costs .now) (header-read (header d))
-    _ refl (sym (checks d) ∙ passed filled .enum-told2 .given .1) (filled .fill .ensures)
+    let l = lists d .args in
+    read-promised (l .bytes .now) (l .starts .now) (l .heads .now) (l .costs .now) (l .holds .now) (header-read (header d))
+    _ refl (sym (checks d) ∙ passed filled .enum-told2 .given .1) (filled .fill .ensures) (zeros .fill-between .ensures)
 
 pub read-spec : {M : Type 1} → statement M
 read-spec =
@@ -81,6 +97,9 @@ read-spec =
     returns-2
     (λ c. search needs)
     fill-requires
+    (λ c. search needs)
+    fill-between-requires
+    (λ c. search needs)
     (λ c. search needs)
     (λ c. search needs)
     (λ c. search needs)

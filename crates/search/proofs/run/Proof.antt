@@ -15,9 +15,9 @@ module _ (c : tie.After-start) where
   entry = search needs
 
   steps : {X : Setting (entry .args .layout) (entry .args .sizes .now)}
-      → Runs X (mapOf (entry .args .layout .nodes) (entry .args .starts .now) (entry .args .heads .now) (entry .args .costs .now)) (entry .args .source .0)
+      → Runs X (mapOf (entry .args .layout .nodes) (entry .args .starts .now) (entry .args .heads .now) (entry .args .costs .now) (entry .args .holds .now)) (entry .args .source .0)
       (entry .args .words .now) (entry .args .distances .now) (entry .args .parents .now) (entry .args .roster .now) (entry .args .top)
-      → Steps X (mapOf (entry .args .layout .nodes) (entry .args .starts .now) (entry .args .heads .now) (entry .args .costs .now)) (entry .args .source .0)
+      → Steps X (mapOf (entry .args .layout .nodes) (entry .args .starts .now) (entry .args .heads .now) (entry .args .costs .now) (entry .args .holds .now)) (entry .args .source .0)
       (entry .args .roster .now) (heapStart (X .network) (X .shape)) (lists (c .start .last .0) (c .start .last .1 .0) (c .start .last .1 .1 .0) (entry .args .roster .now)) (c .start .result)
   steps {X} R = start-steps R (c .start .ensures .0 X (entry .args .roster .now) (R .starts)) (c .start .ensures .1)
 
@@ -27,7 +27,6 @@ scan-all-requires c κs =
     let p = entry d .pre in
     record {
       setting = p .setting;
-      source = entry d .args .source .0;
       before = entry d .args .roster .now;
       heap = heapStart (p .setting .network) (p .setting .shape);
       steps = steps d (p .runs);
@@ -40,7 +39,7 @@ returns : tie.Need-returns
 returns c X R =
     let left : tie.After-scan-all = search needs in
     let d = started left in
-    left .scan-all .ensures X (entry d .args .source .0) (entry d .args .roster .now) (heapStart (X .network) (X .shape)) (steps d R)
+    left .scan-all .ensures X (entry d .args .roster .now) (heapStart (X .network) (X .shape)) (steps d R)
 
 pub run-spec : {M : Type 1} → statement M
 run-spec =

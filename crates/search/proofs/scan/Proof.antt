@@ -9,12 +9,12 @@ use Rattle.search.proofs.scan.Statement.{statement}
 use Rattle.search.proofs.scan.Tie as tie
 
 abbrev Inv-loop : tie.InvT-loop
-Inv-loop words₀ distances₀ parents₀ sizes heads costs layout first last reached₀ a₀ words distances parents reached a =
+Inv-loop words₀ distances₀ parents₀ sizes heads costs hold layout first last reached₀ a₀ words distances parents reached a =
     (length words ≡ length words₀) × (length distances ≡ length distances₀) × (length parents ≡ length parents₀)
-    × Scanned layout sizes heads costs first last words₀ distances₀ parents₀ reached₀ words distances parents reached a
+    × Scanned layout sizes heads costs hold first last words₀ distances₀ parents₀ reached₀ words distances parents reached a
 
 abbrev μ-loop : tie.MeasureT-loop
-μ-loop words₀ distances₀ parents₀ sizes heads costs layout first last reached₀ a₀ words distances parents reached a = last - a
+μ-loop words₀ distances₀ parents₀ sizes heads costs hold layout first last reached₀ a₀ words distances parents reached a = last - a
 
 -- The places that the answers name: the start, and the loop of the arc taken.
 abbrev start : tie.At-loop Inv-loop μ-loop → tie.Start Inv-loop μ-loop
@@ -28,6 +28,11 @@ loop-holds c = let s : tie.Start Inv-loop μ-loop = search needs in (refl, refl,
 
 shared-slice-read-relax : tie.Need-shared-slice-read-relax Inv-loop μ-loop
 shared-slice-read-relax c = let at-loop : tie.At-loop Inv-loop μ-loop = search needs in omega (arith, start at-loop .pre .scans .costs-long)
+
+add-relax : tie.Need-add-relax Inv-loop μ-loop
+add-relax c =
+    let at-loop : tie.At-loop Inv-loop μ-loop = search needs in
+    omega (arith, start at-loop .pre .scans .sums-low (at-loop .loop .a) (at-loop .loop .inv .3 .from) (omega arith))
 
 relax-requires : tie.Need-relax-requires Inv-loop μ-loop
 relax-requires c κs = let at-loop : tie.At-loop Inv-loop μ-loop = search needs in scanned-some (at-loop .loop .inv .3) (start at-loop .pre) (omega arith)
@@ -56,6 +61,7 @@ scan-spec =
     (λ c. let at-loop : tie.At-loop Inv-loop μ-loop = search needs in omega (arith, start at-loop .pre .scans .few))
     (λ c. search needs)
     shared-slice-read-relax
+    add-relax
     relax-requires
     (λ c. search needs)
     (λ c. search needs)

@@ -5,10 +5,10 @@ use Rattle.test_trial_maps.proofs.try_families.Statement.{statement}
 use Rattle.test_trial_maps.proofs.try_families.Tie as tie
 
 abbrev Inv-loop : tie.InvT-loop
-Inv-loop found₀ family₀ found family = Unit
+Inv-loop found₀ family₀ t5 found family = Unit
 
 abbrev μ-loop : tie.MeasureT-loop
-μ-loop found₀ family₀ found family = 18 - family
+μ-loop found₀ family₀ t5 found family = 18 - family
 
 pub try-families-spec : {M : Type 1} → statement M
 try-families-spec =
@@ -18,6 +18,13 @@ try-families-spec =
     μ-loop
     (λ c. search needs)
     (λ c κs. search needs)
+    (λ c κs. search needs)
+    (λ c κs. search needs)
+    (λ c. search needs)
+    (λ c κs. search needs)
+    (λ c κs. search needs)
+    (λ c κs. search needs)
+    (λ c. search needs)
     (λ c κs. search needs)
     (λ c κs. search needs)
     (λ c. search needs)

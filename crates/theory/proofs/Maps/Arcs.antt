@@ -1,13 +1,16 @@
--- The arcs of a valid map: each leaves one node, and the network of the map is one that the theorems are about.
+-- The arcs of a map: where its lists are in order each leaves one node, and where it is valid its network is one that the theorems are
+-- about.
 use Prim.Native.Nat.{ℕ, zero, suc, _+_, _-_, _≤_, _<_}
+use mathlib.Core.Bool.{Bool, true, false, cond}
 use mathlib.Core.Path.{_≡_, refl, sym, _∙_, ap}
 use mathlib.Core.Logic.{inl, inr, ⊎-elim}
 use mathlib.Core.List.{List, List·Memᴰ, List·Memᴰ·head, List·Memᴰ·not-nil, List·Memᴰ·eq-of-singleton, List·Memᴰ·append-cases, Memᴰ·append-left, Memᴰ·append-right}
 use native.Mathlib.Omega.{arith}
+use lib.Dec.{eqb}
 use lib.ListN.{length, length-append, List·getD-eq-default}
 use Rattle.theory.specs.Sums.{sumBelow}
-use Rattle.theory.specs.Maps.{Map, arcs, startOf, headOf, costOf, Leaves, Sound, Valid}
-use Rattle.theory.specs.Network.{Link, linksFrom, arcLinks, network, Admissible}
+use Rattle.theory.specs.Maps.{Map, arcs, startOf, headOf, holdOf, Leaves, Sound, Valid}
+use Rattle.theory.specs.Network.{Link, linksFrom, tailHold, arcCost, arcLinks, network, Admissible}
 use Rattle.theory.proofs.Cases.{split}
 
 -- A link of a range of arcs is a link of one of them, and conversely.
@@ -33,22 +36,31 @@ module _ (give : ℕ → List Link) where
   linksFrom-length one a zero = omega arith
   linksFrom-length one a (suc count) = rw length-append (omega (arith, one a, linksFrom-length one (suc a) count))
 
--- The link of arc a.
-abbrev pub linkOf : Map → ℕ → Link
-linkOf M a = record { arc = a; head = headOf M a; cost = costOf M a }
+-- The link of arc a out of node v.
+abbrev pub linkOf : Map → (source v a : ℕ) → Link
+linkOf M source v a = record { arc = a; head = headOf M a; cost = arcCost M source v a }
+
+-- What an arc costs besides itself is at most its tail's hold.
+pub tail-hold-most : (M : Map) (source v : ℕ) → tailHold (M .holds) source v ≤ holdOf M v
+unfolding tailHold
+tail-hold-most M source v = go (eqb v source)
+  where
+    go : (t : Bool) → cond t 0 (holdOf M v) ≤ holdOf M v
+    go true = omega arith
+    go false = omega arith
 
 -- The links of a node are those of the arcs that leave it.
 module _ (M : Map) (source v : ℕ) where
-  pub out-leaves : (l : Link) → List·Memᴰ l (network M source .out v) → Leaves M (l .arc) v × (l ≡ linkOf M (l .arc))
+  pub out-leaves : (l : Link) → List·Memᴰ l (network M source .out v) → Leaves M (l .arc) v × (l ≡ linkOf M source v (l .arc))
   unfolding network
   out-leaves l m =
-      let r = linksFrom-from (arcLinks M) (startOf M v) (startOf M (suc v) - startOf M v) l m in
-      let e : l ≡ linkOf M (r .0) = List·Memᴰ·eq-of-singleton (r .3) in
+      let r = linksFrom-from (arcLinks (M .heads) (arcCost M source v)) (startOf M v) (startOf M (suc v) - startOf M v) l m in
+      let e : l ≡ linkOf M source v (r .0) = List·Memᴰ·eq-of-singleton (r .3) in
       rw e ((r .1, omega (arith, r .2)), refl)
 
-  pub leaves-out : (a : ℕ) → Leaves M a v → List·Memᴰ (linkOf M a) (network M source .out v)
+  pub leaves-out : (a : ℕ) → Leaves M a v → List·Memᴰ (linkOf M source v a) (network M source .out v)
   unfolding network
-  leaves-out a h = linksFrom-in (arcLinks M) (startOf M v) (startOf M (suc v) - startOf M v) a (linkOf M a) (h .0) (omega (arith, h .1)) (List·Memᴰ·head refl)
+  leaves-out a h = linksFrom-in (arcLinks (M .heads) (arcCost M source v)) (startOf M v) (startOf M (suc v) - startOf M v) a (linkOf M source v a) (h .0) (omega (arith, h .1)) (List·Memᴰ·head refl)
 
 module _ {M : Map} {source : ℕ} (sound : Sound M source) where
   pub starts-mono : (v w : ℕ) → v ≤ w → w ≤ M .nodes → startOf M v ≤ startOf M w
@@ -85,12 +97,12 @@ module _ {M : Map} {source : ℕ} (sound : Sound M source) where
         arith,
         links-sum v (omega arith),
         sound .starts-rise v h,
-        linksFrom-length (arcLinks M) (λ i. omega arith) (startOf M v) (startOf M (suc v) - startOf M v),
+        linksFrom-length (arcLinks (M .heads) (arcCost M source v)) (λ i. omega arith) (startOf M v) (startOf M (suc v) - startOf M v),
       )
 
-  -- Whatever holds of every arc below m holds of every link.
-  all-links : (P : Link → Type 0) → ((a : ℕ) → a < arcs M → P (linkOf M a)) → (v : ℕ) → v < M .nodes → (l : Link) → List·Memᴰ l (network M source .out v) → P l
-  all-links P all v _ l m = let r = out-leaves M source v l m in rw (r .1) (all (l .arc) (leaves-arc (l .arc) v (r .0)))
+  -- Whatever holds of every arc with its tail holds of every link.
+  all-links : (P : Link → Type 0) → ((a v : ℕ) → Leaves M a v → P (linkOf M source v a)) → (v : ℕ) → v < M .nodes → (l : Link) → List·Memᴰ l (network M source .out v) → P l
+  all-links P all v _ l m = let r = out-leaves M source v l m in rw (r .1) (all (l .arc) v (r .0))
 
 module _ {M : Map} {C source : ℕ} (valid : Valid M C source) where
   pub map-admissible : Admissible (network M source) C (arcs M)
@@ -99,12 +111,13 @@ module _ {M : Map} {C source : ℕ} (valid : Valid M C source) where
     low-ceiling = valid .low-ceiling;
     few-arcs = valid .sound .few-arcs;
     source-node = unfold network in (valid .sound .source-node);
-    heads = unfold network in all-links (valid .sound) (λ l. l .head < M .nodes) (valid .sound .heads-nodes);
-    costs = unfold network in all-links (valid .sound) (λ l. l .cost ≤ C) (valid .costs-most);
+    heads = unfold network in all-links (valid .sound) (λ l. l .head < M .nodes) (λ a v h. valid .sound .heads-nodes a (leaves-arc (valid .sound) a v h));
+    costs = unfold network in all-links (valid .sound) (λ l. l .cost ≤ C) (λ a v h. omega (arith, valid .sums-most a v h, tail-hold-most M source v));
     links = unfold network in omega (arith, links-sum (valid .sound) (M .nodes) (omega arith), valid .sound .starts-last);
-    numbers = unfold network in all-links (valid .sound) (λ l. l .arc < arcs M) (λ a h. h);
+    numbers = unfold network in all-links (valid .sound) (λ l. l .arc < arcs M) (leaves-arc (valid .sound));
     one-arc = λ v w l k p q e.
         let a = out-leaves M source v l p in
         let b = out-leaves M source w k q in
-        (leaves-once (valid .sound) (l .arc) v w (a .0) (rw e (b .0)), a .1 ∙ ap (linkOf M) e ∙ sym (b .1));
+        let s = leaves-once (valid .sound) (l .arc) v w (a .0) (rw e (b .0)) in
+        (s, a .1 ∙ ap (λ (x : ℕ). linkOf M source x (l .arc)) s ∙ ap (linkOf M source w) e ∙ sym (b .1));
   }

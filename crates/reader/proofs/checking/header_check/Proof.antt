@@ -20,7 +20,7 @@ returns c =
     let made-2 = both made-4 (one (ceiling .ceiling-check .ensures)) (up-to-2 .first-of2 .ensures) in
     let made-3 = both made-2 (one (source .source-check .ensures)) (up-to-3 .first-of3 .ensures) in
     let made-9 = both made-3 (one (segments .segments-check .ensures)) (up-to-9 .first-of4 .ensures) in
-    both made-9 (record { is = lists .map-lists-check .ensures }) (c .first-of5 .ensures) .is
+    both made-9 (record { is = lists .file-lists-check .ensures }) (c .first-of5 .ensures) .is
 
 pub header-check-spec : {M : Type 1} → statement M
 header-check-spec =

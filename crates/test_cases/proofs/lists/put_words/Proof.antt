@@ -8,7 +8,7 @@ abbrev Inv-loop : tie.InvT-loop
 Inv-loop map₀ line next₀ i₀ map next i = Unit
 
 abbrev μ-loop : tie.MeasureT-loop
-μ-loop map₀ line next₀ i₀ map next i = 139270 - i
+μ-loop map₀ line next₀ i₀ map next i = 143368 - i
 
 pub put-words-spec : {M : Type 1} → statement M
 put-words-spec =

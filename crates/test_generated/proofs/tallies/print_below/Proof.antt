@@ -5,10 +5,10 @@ use Rattle.test_generated.proofs.tallies.print_below.Statement.{stateme
 use Rattle.test_generated.proofs.tallies.print_below.Tie as tie
 
 abbrev Inv-loop : tie.InvT-loop
-Inv-loop tallies end number₀ t5 number = Unit
+Inv-loop tallies end number₀ number = Unit
 
 abbrev μ-loop : tie.MeasureT-loop
-μ-loop tallies end number₀ t5 number = end - number
+μ-loop tallies end number₀ number = end - number
 
 pub print-below-spec : {M : Type 1} → statement M
 print-below-spec =
@@ -17,11 +17,6 @@ print-below-spec =
     Inv-loop
     μ-loop
     (λ c. search needs)
-    (λ c. search needs)
-    (λ c κs. search needs)
-    (λ c κs. search needs)
-    (λ c κs. search needs)
-    (λ c κs. search needs)
     (λ c κs. search needs)
     (λ c. search needs)
     (λ c. search needs)

@@ -5,10 +5,10 @@ use Rattle.test_reference_counts.proofs.recount.remove_all.Statement.{s
 use Rattle.test_reference_counts.proofs.recount.remove_all.Tie as tie
 
 abbrev Inv-loop : tie.InvT-loop
-Inv-loop heap n lists table₀ scanned₀ table scanned = Unit
+Inv-loop heap n source lists table₀ scanned₀ table scanned = Unit
 
 abbrev μ-loop : tie.MeasureT-loop
-μ-loop heap n lists table₀ scanned₀ table scanned = n - scanned
+μ-loop heap n source lists table₀ scanned₀ table scanned = n - scanned
 
 pub remove-all-spec : {M : Type 1} → statement M
 remove-all-spec =

@@ -5,10 +5,10 @@ use Rattle.test_reference_counts.proofs.recount.scan.Statement.{stateme
 use Rattle.test_reference_counts.proofs.recount.scan.Tie as tie
 
 abbrev Inv-loop : tie.InvT-loop
-Inv-loop heap lists table₀ v end arc₀ table arc = Unit
+Inv-loop heap source lists table₀ v end arc₀ table arc = Unit
 
 abbrev μ-loop : tie.MeasureT-loop
-μ-loop heap lists table₀ v end arc₀ table arc = end - arc
+μ-loop heap source lists table₀ v end arc₀ table arc = end - arc
 
 pub scan-spec : {M : Type 1} → statement M
 scan-spec =

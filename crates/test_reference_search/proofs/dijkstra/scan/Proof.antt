@@ -5,10 +5,10 @@ use Rattle.test_reference_search.proofs.dijkstra.scan.Statement.{statem
 use Rattle.test_reference_search.proofs.dijkstra.scan.Tie as tie
 
 abbrev Inv-loop : tie.InvT-loop
-Inv-loop lists table₀ v end arc₀ table arc = Unit
+Inv-loop source lists table₀ v spent end arc₀ table arc = Unit
 
 abbrev μ-loop : tie.MeasureT-loop
-μ-loop lists table₀ v end arc₀ table arc = end - arc
+μ-loop source lists table₀ v spent end arc₀ table arc = end - arc
 
 pub scan-spec : {M : Type 1} → statement M
 scan-spec =
@@ -16,6 +16,7 @@ scan-spec =
     (tie.spec
     Inv-loop
     μ-loop
+    (λ c κs. search needs)
     (λ c κs. search needs)
     (λ c κs. search needs)
     (λ c κs. search needs)
