@@ -37,7 +37,8 @@ fn limit_check(number: u32, limit: u32, words: &[u32]) -> Check
 }
 
 pub fn any_above(limit: u32, words: &[u32]) -> bool
-    ensures { λ r. ⌜ (r ≡ false → NoneAbove limit (now (words .entry))) ⌝ }
+    ensures none { λ r. ⌜ (r ≡ false → NoneAbove limit (now (words .entry))) ⌝ }
+    ensures some { λ r. ⌜ (NoneAbove limit (now (words .entry)) → r ≡ false) ⌝ }
 {
     let mut any = false;
     let mut i = 0;

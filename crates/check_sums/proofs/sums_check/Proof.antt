@@ -14,7 +14,7 @@ returns-2 : tie.Need-returns-2
 returns-2 c =
     let s : tie.Start = search needs in
     let most : tie.After-greatest = search needs in
-    low-costs-pass (s .pre) (most .greatest .ensures) (c .before .any-above .ensures (c .if1 .left))
+    low-costs-pass (s .pre) (most .greatest .ensures) (c .before .any-above .ensures .0 (c .if1 .left))
 
 pub sums-check-spec : {M : Type 1} → statement M
 sums-check-spec =

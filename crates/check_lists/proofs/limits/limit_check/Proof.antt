@@ -17,7 +17,7 @@ returns c =
 returns-2 : tie.Need-returns-2
 returns-2 c =
     let s : tie.Start = search needs in
-    sym (none-above-passes _ _ (s .args .words .now) (c .before .any-above .ensures (c .if1 .left)))
+    sym (none-above-passes _ _ (s .args .words .now) (c .before .any-above .ensures .0 (c .if1 .left)))
 
 pub limit-check-spec : {M : Type 1} → statement M
 limit-check-spec =
