@@ -17,7 +17,7 @@ use Rattle.theory.proofs.Demands.{run-demanded}
 use Rattle.theory.proofs.Lists.{getD-inside}
 use Rattle.theory.proofs.Maps.Routes.{route-node}
 use Rattle.route.specs.Routes.{Served}
-use Rattle.reader.specs.Checking.{planCheck}
+use Rattle.plan_checks.specs.Checking.{planCheck}
 use Rattle.reader.specs.Plans.{planOf, planRun}
 use Rattle.reader.proofs.Runnable.{read-runnable}
 use Rattle.planning.specs.Planning.{mostBytes, planningCheck, planText}

@@ -65,10 +65,10 @@ module _ (bytes : List ℕ) (short : length bytes ≤ 65536) {l : PlanLists} (le
           heads-after = read-told P a .heads-after;
           costs-after = read-told P a .costs-after;
           holds-after = read-told P a .holds-after;
-          distances-after = E .distances-after;
-          parents-after = E .parents-after;
-          roster-after = E .roster-after;
-          work-after = E .work-after;
+          distances-after = E .left .distances-after;
+          parents-after = E .left .parents-after;
+          roster-after = E .left .roster-after;
+          work-after = E .left .work-after;
         })
 
 -- What is written lies within the output.

@@ -13,14 +13,14 @@ use Rattle.theory.specs.Maps.{Map}
 use Rattle.theory.specs.Heap.{Heap}
 use Rattle.theory.specs.Search.{Search}
 use Rattle.theory.specs.Runs.{Inputs, Levels, one, two, fixedWords, workWords, stepsOf}
-use Rattle.theory.proofs.Demands.{heaps-agree, allowed-segmented}
+use Rattle.theory.proofs.Demands.{heaps-agree, allowed-segmented, one-level-demanded}
 use Rattle.checks.specs.Checks.{firstFault, runChecks, Lengths}
 use Rattle.checks.proofs.Valid.{passed-ready}
 use Rattle.runs.specs.Promise.{Lent, lent, lengthsOf, RosterFilled, Ran, Promised}
 use Rattle.report.specs.Report.{nodeLines, acceptedText}
 use Rattle.fields.specs.Writing.{Writes}
 use Rattle.fields.proofs.Written.{writes-same}
-use Rattle.planning.specs.Planning.{PlanLists, heapsText, runsText, planLengths, BothRun}
+use Rattle.planning.specs.Planning.{PlanLists, heapsText, runsText, planLengths, BothReturned, BothRun}
 
 -- ---- words written twice
 
@@ -88,7 +88,7 @@ module _ {L L′ : Levels} {I : Inputs} (words : fixedWords L ≤ fixedWords L�
   }
 
 -- The runs of a planning file, on its lists.
-module _ (m K : ℕ) (I : Inputs) (L L′ : PlanLists) where
+module _ (K : ℕ) (I : Inputs) (L L′ : PlanLists) where
   abbrev entry : Lent
   entry = lent (L .distances) (L .parents) (L .roster) (L .work)
 
@@ -98,51 +98,49 @@ module _ (m K : ℕ) (I : Inputs) (L L′ : PlanLists) where
   abbrev first : Heap
   first = stepsOf one I
 
-  module _ {r₁ r₂ : RunAnswer} {between : Lent} (agree : first .search ≡ stepsOf (two K) I .search) (P : Ran one I Passed r₁ entry between) (Q : Ran (two K) I Passed r₂ between exit) where
-    behind : Ran (two K) I Passed r₂ entry exit
-    behind = run-behind (omega arith) agree entry between exit P Q
+  module _ (f : firstFault (runChecks (two K) I (planLengths L)) ≡ Passed) where
+    agree : first .search ≡ stepsOf (two K) I .search
+    agree = let ready = passed-ready f in heaps-agree (ready .valid) one (two K) tt (allowed-segmented (two K) (ready .allowed))
 
-    distances-left : L′ .distances ≡ wordsAfter Passed (first .search .distances) (L .distances)
-    distances-left = behind .distances ∙ ap (λ (s : Search). wordsAfter Passed (s .distances) (L .distances)) (sym agree)
+    both-made : {r₁ r₂ : RunAnswer} {between : Lent} {a b : Numbers} → Ran one I Passed r₁ entry between → Ran (two K) I Passed r₂ between exit
+        → a ≡ numbersOf r₁ → b ≡ numbersOf r₂ → BothReturned K I L L′ a b
+    both-made {between = between} P Q d e =
+        let behind = run-behind (omega arith) agree entry between exit P Q in
+        record {
+          first-numbers = d ∙ P .numbers;
+          second-numbers = e ∙ Q .numbers;
+          left = record {
+            distances-after = behind .distances ∙ ap (λ (s : Search). wordsAfter Passed (s .distances) (L .distances)) (sym agree);
+            parents-after = behind .parents ∙ ap (λ (s : Search). wordsAfter Passed (s .parents) (L .parents)) (sym agree);
+            roster-after = behind .roster;
+            work-after = behind .work;
+          };
+        }
 
-    parents-left : L′ .parents ≡ wordsAfter Passed (first .search .parents) (L .parents)
-    parents-left = behind .parents ∙ ap (λ (s : Search). wordsAfter Passed (s .parents) (L .parents)) (sym agree)
+    -- As the code tells it: each run's checks are those of the lists as they are then.
+    pub both-returned : {between : Lent} {r₁ r₂ : RunAnswer} {a b : Numbers} → firstFault (runChecks one I (planLengths L)) ≡ Passed
+        → Promised one I r₁ entry between → Promised (two K) I r₂ between exit
+        → length (between .distances) ≡ length (L .distances) → length (between .parents) ≡ length (L .parents)
+        → length (between .roster) ≡ length (L .roster) → length (between .work) ≡ length (L .work)
+        → a ≡ numbersOf r₁ → b ≡ numbersOf r₂ → BothReturned K I L L′ a b
+    both-returned {between} {r₁} {r₂} e P Q distances parents roster work =
+        let same : lengthsOf between ≡ planLengths L = rw (distances, parents, roster, work) refl in
+        both-made (subst (λ (k : Check). Ran one I k r₁ entry between) e P)
+        (subst (λ (k : Check). Ran (two K) I k r₂ between exit) (ap (λ (k : Lengths). firstFault (runChecks (two K) I k)) same ∙ f) Q)
 
     -- The text of what is returned is that of the steps.
-    text-same : runsText (I .map .nodes) m (numbersOf r₁) (numbersOf r₂) (L′ .distances) (L′ .parents) ≡ heapsText m K I
-    unfolding runsText acceptedText
-    text-same =
-        rw (
-          P .numbers,
-          Q .numbers,
-          distances-left,
-          parents-left,
-          nodes-told (I .map .nodes) (first .search .distances) (first .search .parents) (drop (length (first .search .distances)) (L .distances))
-              (drop (length (first .search .parents)) (L .parents)) (omega (arith, P .demanded .cheapest .distances-length)) (omega (arith, P .demanded .cheapest .parents-length)),
-        ) refl
-
-    both-told : {a b : Numbers} {output output′ : List ℕ} {written : ℕ} → a ≡ numbersOf r₁ → b ≡ numbersOf r₂
+    pub both-run : {m : ℕ} {a b : Numbers} {output output′ : List ℕ} {written : ℕ} → BothReturned K I L L′ a b
         → Writes 0 (runsText (I .map .nodes) m a b (L′ .distances) (L′ .parents)) output output′ written → BothRun m K I L L′ output output′ written
-    both-told e f W = record {
-      text = writes-same (ap₂ (λ (x y : Numbers). runsText (I .map .nodes) m x y (L′ .distances) (L′ .parents)) e f ∙ text-same) W;
-      distances-after = distances-left;
-      parents-after = parents-left;
-      roster-after = behind .roster;
-      work-after = behind .work;
-    }
-
-  -- ---- as the code tells it
-
-  pub both-run : {between : Lent} {r₁ r₂ : RunAnswer} {a b : Numbers} {output output′ : List ℕ} {written : ℕ}
-      → firstFault (runChecks one I (planLengths L)) ≡ Passed → firstFault (runChecks (two K) I (planLengths L)) ≡ Passed
-      → Promised one I r₁ entry between → Promised (two K) I r₂ between exit
-      → length (between .distances) ≡ length (L .distances) → length (between .parents) ≡ length (L .parents)
-      → length (between .roster) ≡ length (L .roster) → length (between .work) ≡ length (L .work)
-      → a ≡ numbersOf r₁ → b ≡ numbersOf r₂ → Writes 0 (runsText (I .map .nodes) m a b (L′ .distances) (L′ .parents)) output output′ written
-      → BothRun m K I L L′ output output′ written
-  both-run {between} {r₁} {r₂} e f P Q distances parents roster work =
-      let ready = passed-ready f in
-      let same : lengthsOf between ≡ planLengths L = rw (distances, parents, roster, work) refl in
-      both-told (heaps-agree (ready .valid) one (two K) tt (allowed-segmented (two K) (ready .allowed)))
-      (subst (λ (k : Check). Ran one I k r₁ entry between) e P)
-      (subst (λ (k : Check). Ran (two K) I k r₂ between exit) (ap (λ (k : Lengths). firstFault (runChecks (two K) I k)) same ∙ f) Q)
+    unfolding runsText acceptedText
+    both-run {m} {a} {b} R W =
+        let routes = one-level-demanded (passed-ready f .valid) .cheapest in
+        let same : runsText (I .map .nodes) m a b (L′ .distances) (L′ .parents) ≡ heapsText m K I =
+        rw (
+          R .first-numbers,
+          R .second-numbers,
+          R .left .distances-after,
+          R .left .parents-after,
+          nodes-told (I .map .nodes) (first .search .distances) (first .search .parents) (drop (length (first .search .distances)) (L .distances))
+              (drop (length (first .search .parents)) (L .parents)) (omega (arith, routes .distances-length)) (omega (arith, routes .parents-length)),
+        ) refl in
+        record { text = writes-same same W; left = R .left }

@@ -1,5 +1,5 @@
 -- Every marked case holds of the definitions: one theorem over the table. The rows of numbers hold by theory's theorem; the files are
--- computed.
+-- computed. Assumes nothing.
 use mathlib.Core.Path.{_≡_, refl, _∙_, ap, ap₂, sym}
 use mathlib.Core.List.{List, [], _∷_, _++_, map, map-append}
 use lib.ListN.{replicate}
@@ -11,6 +11,8 @@ use Rattle.theory.specs.Runs.{inputs, stepsOf}
 use Rattle.theory.specs.Edges.{Row, answerTo, edges}
 use Rattle.theory.proofs.Edges.{edges-hold}
 use Rattle.check_numbers.specs.Numbers.{faultIf}
+use Rattle.check_lists.specs.Lists.{leastFault}
+use Rattle.check_sums.specs.Sums.{sumsCheck}
 use Rattle.checks.specs.Checks.{firstFault, lentChecks}
 use Rattle.fields.specs.Fields.{digits, numberFrom, isField, field, fields, decimalBy, renderFields}
 use Rattle.fields.specs.Texts.{bytesOf}
@@ -18,9 +20,10 @@ use Rattle.grouping.specs.Groups.{keysBelow, having, groupsFrom, startsFrom}
 use Rattle.grouping.specs.Arcs.{startsOf, headsOf, costsOf}
 use Rattle.grouping.specs.Listing.{listingArcs}
 use Rattle.cursor.specs.Lines.{lineNumbers}
-use Rattle.reader.specs.Lines.{arcLine, headerLine}
-use Rattle.reader.specs.Checking.{arcChecks, arcsCheck, headerChecks, planCheck}
-use Rattle.reader.specs.Plans.{linesArcs, planOf, planRun}
+use Rattle.plan_lines.specs.Lines.{arcLine, holdLine, headerLine}
+use Rattle.plan_lines.specs.Told.{linesTaken, linesArcs, linesHolds}
+use Rattle.plan_checks.specs.Checking.{arcChecks, arcsCheck, holdLinesCheck, behindChecks, linesChecks, headerChecks, planCheck}
+use Rattle.reader.specs.Plans.{planOf, planRun}
 use Rattle.report.specs.Report.{refusedText, countsLine, heapLine, orNone, nodeLine, nodeLines, acceptedText}
 use Rattle.planning.specs.Planning.{planningCheck, planText}
 use Rattle.planning.specs.Marked.{Told, answer, numbers, givenFor, said, listingFile, files, marked}
@@ -43,7 +46,7 @@ numbers-hold = rows-given edges ∙ ap (map answer) edges-hold ∙ sym (rows-sai
 -- ---- the files
 
 files-hold : map givenFor files ≡ map said files
-unfolding givenFor said files stepsOf network linksFrom tailHold label remove blank logFrom ceilLog oneLevelBuckets twoLevelBuckets oneLevel twoLevel bucketFrom heapLabel heapRelax heapRelaxAll pick rebound boundsAfter move heapRemove heapScan heapFrom boundsFrom firstBounds heapBlank heapStart heap planText planningCheck bytesOf faultIf firstFault lentChecks digits numberFrom isField field fields decimalBy renderFields lineNumbers arcLine headerLine arcChecks arcsCheck headerChecks planCheck linesArcs keysBelow having groupsFrom startsFrom refusedText countsLine heapLine orNone nodeLine nodeLines acceptedText
+unfolding givenFor said files stepsOf network linksFrom tailHold label remove blank logFrom ceilLog oneLevelBuckets twoLevelBuckets oneLevel twoLevel bucketFrom heapLabel heapRelax heapRelaxAll pick rebound boundsAfter move heapRemove heapScan heapFrom boundsFrom firstBounds heapBlank heapStart heap planText planningCheck bytesOf faultIf firstFault lentChecks digits numberFrom isField field fields decimalBy renderFields lineNumbers arcLine holdLine headerLine linesTaken linesArcs linesHolds arcChecks arcsCheck holdLinesCheck leastFault sumsCheck behindChecks linesChecks headerChecks planCheck keysBelow having groupsFrom startsFrom refusedText countsLine heapLine orNone nodeLine nodeLines acceptedText
 files-hold = refl
 
 -- ---- the table

@@ -11,7 +11,7 @@ use Rattle.theory.specs.Runs.{Inputs, Levels, Allowed, fixedWords}
 use Rattle.checks.specs.Checks.{firstFault, runChecks}
 use Rattle.reader.specs.declared.PlanAnswer.{PlanAnswer}
 use Rattle.reader.specs.declared.PlanAnswer.the-variants.{Read, Refused}
-use Rattle.reader.specs.Checking.{planCheck}
+use Rattle.plan_checks.specs.Checking.{planCheck}
 use Rattle.reader.specs.Plans.{planOf, planRun}
 use Rattle.reader.specs.Promise.{PlanPromised}
 use Rattle.reader.proofs.Runnable.{Runnable, read-runnable, runs-pass}

@@ -13,9 +13,9 @@ use Rattle.theory.specs.Maps.{Map}
 use Rattle.theory.specs.Heap.{Heap, placements}
 use Rattle.theory.specs.Runs.{Inputs, inputs, Levels, one, two, heapBuckets, workWords, stepsOf}
 use Rattle.checks.specs.Checks.{firstFault, runChecks, Lengths, lengthsFor}
-use Rattle.runs.specs.Promise.{RosterAfter}
+use Rattle.runs.specs.Promise.{RosterAfter, runNumbers}
 use Rattle.fields.specs.Writing.{Writes}
-use Rattle.reader.specs.Checking.{planCheck}
+use Rattle.plan_checks.specs.Checking.{planCheck}
 use Rattle.reader.specs.Plans.{Plan, planOf, planStarts, planHeads, planCosts, planHolds, planRun}
 use Rattle.report.specs.Report.{refusedText, acceptedText}
 use Rattle.planning.specs.declared.RunNumbers.{RunNumbers}
@@ -168,10 +168,20 @@ pub record BothRunnable (n m C source K : ℕ) (l : PlanLists) : Type 0 where
   pub one-level : MapRunnable one n m C source l
   pub two-level : MapRunnable (two K) n m C source l
 
--- Both runs of m arcs with K, over what they are given, are made and told (document 01, "Planning file").
-pub record BothRun (m K : ℕ) (I : Inputs) (l l′ : PlanLists) (output output′ : List ℕ) (written : ℕ) : Type 0 where
-  pub text : Writes 0 (heapsText m K I) output output′ written
+-- What the lists hold behind both runs with K, over what they are given (document 01, "Planning file").
+pub record BothLeft (K : ℕ) (I : Inputs) (l l′ : PlanLists) : Type 0 where
   pub distances-after : l′ .distances ≡ wordsAfter Passed (stepsOf one I .search .distances) (l .distances)
   pub parents-after : l′ .parents ≡ wordsAfter Passed (stepsOf one I .search .parents) (l .parents)
   pub roster-after : RosterAfter Passed (I .map) (I .source) (stepsOf (two K) I) (l .roster) (l′ .roster)
   pub work-after : l′ .work ≡ wordsAfter Passed (replicate (workWords (two K) (I .map .nodes)) 0) (l .work)
+
+-- Both runs with K are made, and have returned these numbers (document 01, "What a call returns").
+pub record BothReturned (K : ℕ) (I : Inputs) (l l′ : PlanLists) (first second : Numbers) : Type 0 where
+  pub first-numbers : first ≡ runNumbers Passed (heapBuckets one (I .ceiling)) (stepsOf one I)
+  pub second-numbers : second ≡ runNumbers Passed (heapBuckets (two K) (I .ceiling)) (stepsOf (two K) I)
+  pub left : BothLeft K I l l′
+
+-- Both runs of m arcs with K are made and told (document 01, "Planning file").
+pub record BothRun (m K : ℕ) (I : Inputs) (l l′ : PlanLists) (output output′ : List ℕ) (written : ℕ) : Type 0 where
+  pub text : Writes 0 (heapsText m K I) output output′ written
+  pub left : BothLeft K I l l′

@@ -9,7 +9,7 @@ ghost use Prim.Native.Nat.{_+_, _*_, _≤_};
 ghost use lib.ListN.{length};
 ghost use Rattle.model.specs.Answers.{numbersOf};
 ghost use Rattle.fields.specs.Writing.{Writes};
-ghost use Rattle.planning.specs.Planning.{planLists, PlanningPromised, PlanLends, told, runsText, mapInputs, BothRunnable, BothRun};
+ghost use Rattle.planning.specs.Planning.{planLists, PlanningPromised, PlanLends, told, runsText, mapInputs, BothRunnable, BothReturned, BothRun};
 
 // What a run has returned: number and place, then its numbers.
 pub struct RunNumbers {
@@ -18,6 +18,12 @@ pub struct RunNumbers {
     pub reached: u32,
     pub buckets: u32,
     pub counts: Counts,
+}
+
+// What both runs have returned.
+pub struct BothNumbers {
+    pub one: RunNumbers,
+    pub two: RunNumbers,
 }
 
 fn numbers_of(answer: RunAnswer) -> RunNumbers
@@ -93,8 +99,8 @@ fn write_runs(
     )
 }
 
-// Both runs of the map in the lists, and their answer.
-fn plan_map(
+// Both runs of the map in the lists, the two-level run behind the one-level run.
+fn run_both(
     nodes: u32,
     arcs: u32,
     ceiling: u32,
@@ -108,16 +114,14 @@ fn plan_map(
     parents: &mut [u32],
     roster: &mut [u32],
     work: &mut [u32],
-    output: &mut [u8],
-) -> usize
+) -> BothNumbers
     requires { ⌜ BothRunnable nodes arcs ceiling (source .0) segments
         (planLists (now starts) (now heads) (now costs) (now holds) (now distances) (now parents) (now roster) (now work)) ⌝ }
-    requires { ⌜ length (now output) ≡ 33280 ⌝ }
-    ensures { λ r. ⌜ BothRun arcs segments
+    ensures { λ r. ⌜ BothReturned segments
         (mapInputs nodes arcs ceiling (source .0) (planLists (now (starts .entry)) (now (heads .entry)) (now (costs .entry)) (now (holds .entry)) (now (distances .entry)) (now (parents .entry)) (now (roster .entry)) (now (work .entry))))
         (planLists (now (starts .entry)) (now (heads .entry)) (now (costs .entry)) (now (holds .entry)) (now (distances .entry)) (now (parents .entry)) (now (roster .entry)) (now (work .entry)))
         (planLists (now (starts .entry)) (now (heads .entry)) (now (costs .entry)) (now (holds .entry)) (now (distances .exit)) (now (parents .exit)) (now (roster .exit)) (now (work .exit)))
-        (now (output .entry)) (now (output .exit)) r ⌝ }
+        (told (r .one)) (told (r .two)) ⌝ }
 {
     let n = nodes as usize;
     let m = arcs as usize;
@@ -152,15 +156,56 @@ fn plan_map(
         roster,
         work,
     );
-    write_runs(
-        output,
+    BothNumbers {
+        one: numbers_of(one),
+        two: numbers_of(two),
+    }
+}
+
+// Both runs of the map in the lists, and their answer.
+fn plan_map(
+    nodes: u32,
+    arcs: u32,
+    ceiling: u32,
+    source: Node,
+    segments: u32,
+    starts: &[u32],
+    heads: &[u32],
+    costs: &[u32],
+    holds: &[u32],
+    distances: &mut [u32],
+    parents: &mut [u32],
+    roster: &mut [u32],
+    work: &mut [u32],
+    output: &mut [u8],
+) -> usize
+    requires { ⌜ BothRunnable nodes arcs ceiling (source .0) segments
+        (planLists (now starts) (now heads) (now costs) (now holds) (now distances) (now parents) (now roster) (now work)) ⌝ }
+    requires { ⌜ length (now output) ≡ 33280 ⌝ }
+    ensures { λ r. ⌜ BothRun arcs segments
+        (mapInputs nodes arcs ceiling (source .0) (planLists (now (starts .entry)) (now (heads .entry)) (now (costs .entry)) (now (holds .entry)) (now (distances .entry)) (now (parents .entry)) (now (roster .entry)) (now (work .entry))))
+        (planLists (now (starts .entry)) (now (heads .entry)) (now (costs .entry)) (now (holds .entry)) (now (distances .entry)) (now (parents .entry)) (now (roster .entry)) (now (work .entry)))
+        (planLists (now (starts .entry)) (now (heads .entry)) (now (costs .entry)) (now (holds .entry)) (now (distances .exit)) (now (parents .exit)) (now (roster .exit)) (now (work .exit)))
+        (now (output .entry)) (now (output .exit)) r ⌝ }
+{
+    let both = run_both(
         nodes,
         arcs,
-        numbers_of(one),
-        numbers_of(two),
+        ceiling,
+        source,
+        segments,
+        starts,
+        heads,
+        costs,
+        holds,
         distances,
         parents,
-    )
+        roster,
+        work,
+    );
+    let one = both.one;
+    let two = both.two;
+    write_runs(output, nodes, arcs, one, two, distances, parents)
 }
 
 // The lists as slices.

@@ -1,104 +1,93 @@
 -- What the reader promises, from what its two passes give. Assumes nothing.
-use mathlib.Core.Path.{_≡_, refl, _∙_}
-use mathlib.Core.List.{List, [], _∷_, _++_}
+use mathlib.Core.Path.{_≡_, refl}
+use mathlib.Core.List.{List, _++_}
 use Prim.Native.Nat.{ℕ, _+_, _≤_}
-use native.Mathlib.Nat.{sub-zero}
 use native.Mathlib.Omega.{arith}
-use lib.ListN.{length, drop, replicate, length-replicate}
+use lib.ListN.{length, drop, length-drop}
+use lib.Seq.{drop-drop}
 use Rattle.model.specs.declared.Check.{Check}
 use Rattle.model.specs.declared.Check.the-variants.{Passed, Fault}
 use Rattle.model.specs.declared.Node.{Node}
 use Rattle.model.specs.Answers.{wordsAfter}
-use Rattle.checks.specs.Checks.{firstFault, lentChecks}
-use Rattle.checks.proofs.Order.{AllPass, none, more, passed-all}
-use Rattle.checks.proofs.Sizes.{passed-lent}
+use Rattle.checks.specs.Checks.{firstFault}
 use Rattle.grouping.specs.Filled.{Filled}
-use Rattle.cursor.specs.declared.LineNumbers.{LineNumbers}
-use Rattle.cursor.specs.declared.LineNumbers.the-variants.{NoNumbers, NumbersRead}
-use Rattle.cursor.specs.Lines.{lineNumbers}
-use Rattle.cursor.proofs.LinesRead.{numbers-within}
-use Rattle.reader.specs.declared.lines.HeaderLine.the-variants.{NoHeader, HeaderRead}
+use Rattle.plan_lines.specs.declared.HeaderLine.{HeaderLine}
+use Rattle.plan_lines.specs.declared.HeaderLine.the-variants.{HeaderRead}
+use Rattle.plan_lines.specs.Lines.{headerLine}
+use Rattle.plan_lines.specs.Told.{linesTaken, behindArcs, linesArcs, nodeHolds}
+use Rattle.plan_lines.proofs.Reach.{taken-within}
+use Rattle.plan_checks.specs.Checking.{linesChecks, headerChecks, planCheck}
+use Rattle.reader.specs.declared.PlanAnswer.{PlanAnswer}
 use Rattle.reader.specs.declared.PlanAnswer.the-variants.{Read, Refused}
-use Rattle.reader.specs.Lines.{headerOf, headerLine}
-use Rattle.reader.specs.Checking.{arcsCheck, headerChecks, planCheck}
-use Rattle.reader.specs.Plans.{linesArcs}
-use Rattle.reader.specs.Promise.{PlanPromised}
-use Rattle.reader.specs.Filling.{Fillable, between}
+use Rattle.reader.specs.Plans.{Plan}
+use Rattle.reader.specs.Promise.{PlanAnswered, HeaderAnswered, PlanPromised}
+use Rattle.reader.specs.Filling.{Fillable, HoldsFillable}
+use Rattle.reader.proofs.Passed.{file-passed}
 
--- ---- line 1
+pub refused-answered : {check : Check} {plan : Plan} {starts heads costs holds : List ℕ} {number place : ℕ} → check ≡ Fault number place
+    → PlanAnswered check plan starts heads costs holds starts heads costs holds (Refused number place)
+refused-answered e = rw e (record {
+  read = refl;
+  numbers = refl;
+  starts-after = refl;
+  heads-after = refl;
+  costs-after = refl;
+  holds-after = refl;
+})
 
-pub header-within : (bytes : List ℕ) {n m C source K taken : ℕ} → headerLine bytes ≡ HeaderRead n m C source K taken → taken ≤ length bytes
-unfolding headerLine
-header-within bytes {n} {m} {C} {source} {K} {taken} e = go (lineNumbers 5 bytes) refl e
-  where
-    go : (found : LineNumbers) → lineNumbers 5 bytes ≡ found → headerOf found ≡ HeaderRead n m C source K taken → taken ≤ length bytes
-    go NoNumbers f e = absurd (let z : _≡_ {A = ℕ} 0 1 = cc in omega arith)
-    go (NumbersRead first second third fourth fifth sixth seventh taken′) f e =
-        let same : taken′ ≡ taken = cc in
-        omega (arith, numbers-within 5 bytes f)
+-- the line that is answered is line 1 of the bytes
+pub file-answered : (bytes starts heads costs holds : List ℕ) {line : HeaderLine} {starts′ heads′ costs′ holds′ : List ℕ} {answer : PlanAnswer}
+    → headerLine bytes ≡ line → HeaderAnswered line bytes starts heads costs holds starts′ heads′ costs′ holds′ answer
+    → PlanPromised bytes starts heads costs holds starts′ heads′ costs′ holds′ answer
+unfolding planCheck
+file-answered bytes starts heads costs holds e A = rw e A
 
--- ---- a refusal
+-- ---- a file that passes its checks
 
-module _ (bytes starts heads costs holds : List ℕ) where
-  pub refused-promised : {number place : ℕ} → planCheck bytes (length starts) (length heads) (length costs) (length holds) ≡ Fault number place
-      → PlanPromised bytes starts heads costs holds starts heads costs holds (Refused number place)
-  refused-promised e = rw e (record {
-    read = refl;
-    numbers = refl;
-    starts-after = refl;
-    heads-after = refl;
-    costs-after = refl;
-    holds-after = refl;
-  })
+module _ (n m C K held at : ℕ) (source : Node) (bytes starts heads costs holds : List ℕ) where
+  -- What the second pass is given: the arcs' lists, and the list of holds from the place behind the arcs' lines on.
+  pub record PlanFillable : Type 0 where
+    pub arcs : Fillable n m bytes at starts heads costs
+    pub holds-behind : {behind : ℕ} → behind ≡ at + linesTaken 3 m (drop at bytes) → HoldsFillable n held bytes behind holds
 
-  pub no-header-promised : headerLine bytes ≡ NoHeader → PlanPromised bytes starts heads costs holds starts heads costs holds (Refused 11 1)
-  unfolding planCheck
-  no-header-promised e = refused-promised (rw e)
+  place : {behind : ℕ} → behind ≡ at + linesTaken 3 m (drop at bytes) → behindArcs m (drop at bytes) ≡ drop behind bytes
+  place so = rw so (drop-drop (linesTaken 3 m (drop at bytes)) at bytes)
 
--- ---- a file that is read
+  -- The checks of a file whose line 1 has these numbers.
+  abbrev checks : List Check
+  checks =
+      headerChecks n m C (source .0) K (length starts) (length heads) (length costs) (length holds) ++ linesChecks n m C held (drop at bytes)
 
--- Holds of 0 stand at the front of the list.
-zeros-filled : (n : ℕ) (words : List ℕ) → between words 0 n 0 ≡ wordsAfter Passed (replicate n 0) words
-zeros-filled n words = rw (sub-zero, length-replicate {A = ℕ} n 0) refl
+  pub fillable : at ≤ length bytes → firstFault checks ≡ Passed → PlanFillable
+  fillable within passed =
+      let p = file-passed n m C (source .0) K held (drop at bytes) (length starts) (length heads) (length costs) (length holds) passed in
+      record {
+        arcs = record {
+          ceiling = C;
+          passed = p .arcs-passed;
+          within = within;
+          starts-fit = p .starts-fit;
+          heads-fit = p .heads-fit;
+          costs-fit = p .costs-fit;
+        };
+        holds-behind = λ {behind} so. record {
+          count = rw (place so) at (p .held-shown .count);
+          within = omega (arith, so, taken-within 3 m (drop at bytes), length-drop at bytes);
+          holds-fit = p .holds-fit;
+        };
+      }
 
-module _ (bytes starts heads costs holds : List ℕ) {n m C source K taken : ℕ} (e : headerLine bytes ≡ HeaderRead n m C source K taken)
-  where
-    -- The checks of a file with this line 1.
-    abbrev checks : List Check
-    checks = headerChecks n m C source K (length starts) (length heads) (length costs) (length holds) ++ (arcsCheck n C m 0 0 (drop taken bytes) ∷ [])
-
-    pub plan-check-is : planCheck bytes (length starts) (length heads) (length costs) (length holds) ≡ firstFault checks
-    unfolding planCheck
-    plan-check-is = rw e
-
-    pub fillable : firstFault checks ≡ Passed → Fillable n m bytes taken starts heads costs × (n ≤ length holds)
-    unfolding headerChecks lentChecks
-    fillable p = go (passed-all _ p)
-      where
-        go : AllPass checks → Fillable n m bytes taken starts heads costs × (n ≤ length holds)
-        go (more one (more four (more two (more three (more nine (more first (more second (more third (more fourth (more arcs none)))))))))) = (
-          record {
-            ceiling = C;
-            passed = arcs;
-            within = header-within bytes e;
-            starts-fit = passed-lent 0 (length starts) (n + 1) first;
-            heads-fit = passed-lent 1 (length heads) m second;
-            costs-fit = passed-lent 2 (length costs) m third;
-          },
-          passed-lent 3 (length holds) n fourth,
-        )
-
-    pub read-promised : {starts′ heads′ costs′ holds′ : List ℕ} (from : Node) → from .0 ≡ source
-        → planCheck bytes (length starts) (length heads) (length costs) (length holds) ≡ Passed
-        → Filled n (linesArcs m (drop taken bytes)) starts heads costs starts′ heads′ costs′ → holds′ ≡ between holds 0 n 0
-        → PlanPromised bytes starts heads costs holds starts′ heads′ costs′ holds′ (Read n m C from K)
-    read-promised from s p f h =
-        rw p
-        (record {
-          read = refl;
-          numbers = rw (e, s);
-          starts-after = rw e (f .starts-filled);
-          heads-after = rw e (f .heads-filled);
-          costs-after = rw e (f .costs-filled);
-          holds-after = rw e (h ∙ zeros-filled n holds);
-        })
+  pub read-answered : {starts′ heads′ costs′ holds′ : List ℕ} {behind : ℕ} → firstFault checks ≡ Passed
+      → Filled n (linesArcs m (drop at bytes)) starts heads costs starts′ heads′ costs′ → behind ≡ at + linesTaken 3 m (drop at bytes)
+      → holds′ ≡ wordsAfter Passed (nodeHolds held n (drop behind bytes)) holds
+      → HeaderAnswered (HeaderRead n m C (source .0) K held at) bytes starts heads costs holds starts′ heads′ costs′ holds′ (Read n m C source K)
+  read-answered passed f so h =
+      rw passed
+      (record {
+        read = refl;
+        numbers = refl;
+        starts-after = f .starts-filled;
+        heads-after = f .heads-filled;
+        costs-after = f .costs-filled;
+        holds-after = rw (place so) h;
+      })

@@ -1,8 +1,8 @@
 mod Answered
+mod Holds
 mod Lists
-mod Passing
+mod Passed
 mod Progress
 pub mod Rendered
 pub mod Runnable
-mod Shown
 pub mod Told

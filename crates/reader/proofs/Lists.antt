@@ -1,24 +1,41 @@
 -- Lists of words that are filled from the front on, or between two places. Assumes nothing.
 use mathlib.Core.Path.{_≡_, refl, sym, _∙_, ap}
-use mathlib.Core.List.{List, _∷_, _++_, append-assoc}
+use mathlib.Core.List.{List, [], _∷_, _++_, append-assoc}
 use Prim.Native.Nat.{ℕ, zero, suc, _+_, _-_, _≤_, _<_}
 use native.Mathlib.Nat.{sub-self}
 use native.Mathlib.Numerals.{add-one}
 use native.Mathlib.Omega.{arith}
 use lib.ListN.{length, getD, take, drop, set, replicate, length-append, length-replicate, length-drop, take-append-drop}
 use lib.Seq.{length-take-le, drop-cons, set-at}
+use Rattle.model.specs.declared.Check.the-variants.{Passed}
+use Rattle.model.specs.Answers.{wordsAfter}
 use Rattle.reader.specs.Filling.{between}
+
+-- ---- words filled from the front on
+
+-- a word stored behind those that are filled
+stored : (filled words : List ℕ) (i word : ℕ) → length filled ≡ i → i < length words
+    → set (filled ++ drop i words) i word ≡ filled ++ (word ∷ drop (suc i) words)
+stored filled words i word e l = rw (drop-cons words i 0 l) (set-at filled (getD words i 0) (drop (suc i) words) word i e)
+
+module _ (filled words₀ words : List ℕ) (i : ℕ) (e : length filled ≡ i) (so : words ≡ filled ++ drop i words₀) where
+  pub filled-next : (word : ℕ) → i < length words₀ → set words i word ≡ (filled ++ (word ∷ [])) ++ drop (suc i) words₀
+  filled-next word l =
+      ap (λ (list : List ℕ). set list i word) so
+      ∙ stored filled words₀ i word e l
+      ∙ sym (append-assoc filled (word ∷ []) (drop (suc i) words₀))
+
+  pub filled-length : i ≤ length words₀ → length words ≡ length words₀
+  filled-length l = ap length so ∙ simp (length-append, length-drop) (omega arith)
+
+  pub filled-end : (all : List ℕ) → all ≡ filled → words ≡ wordsAfter Passed all words₀
+  filled-end all same = so ∙ rw (same, e)
+
+-- ---- words between two places
 
 repeated : (count word : ℕ) (rest : List ℕ) → replicate count word ++ (word ∷ rest) ≡ word ∷ (replicate count word ++ rest)
 repeated zero word rest = refl
 repeated (suc count) word rest = ap (λ (words : List ℕ). word ∷ words) (repeated count word rest)
-
--- a word stored behind those that are filled
-pub stored : (filled words : List ℕ) (i word : ℕ) → length filled ≡ i → i < length words
-    → set (filled ++ drop i words) i word ≡ filled ++ (word ∷ drop (suc i) words)
-stored filled words i word e l = rw (drop-cons words i 0 l) (set-at filled (getD words i 0) (drop (suc i) words) word i e)
-
--- ---- words between two places
 
 pub record Between (words₀ words : List ℕ) (from to word i : ℕ) : Type 0 where
   pub low : from ≤ i

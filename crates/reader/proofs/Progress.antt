@@ -15,33 +15,34 @@ use Rattle.grouping.specs.Filled.{Filled}
 use Rattle.grouping.proofs.Groups.{below-append, below-one}
 use Rattle.grouping.proofs.Starts.{starts-length, starts-split, starts-same}
 use Rattle.grouping.proofs.Order.{Rising, more, none-below, in-order}
-use Rattle.reader.specs.declared.lines.ArcLine.the-variants.{NoArc, ArcRead}
-use Rattle.reader.specs.Lines.{arcLine}
-use Rattle.reader.specs.Checking.{arcsCheck}
-use Rattle.reader.specs.Plans.{linesArcs}
+use Rattle.plan_lines.specs.declared.ArcLine.the-variants.{NoArc, ArcRead}
+use Rattle.plan_lines.specs.Lines.{arcLine}
+use Rattle.plan_lines.specs.Told.{linesArcs}
+use Rattle.plan_lines.proofs.Reach.{Reached, reached-start, reached-next}
+use Rattle.plan_lines.proofs.Fields.{arc-line}
+use Rattle.plan_checks.specs.Checking.{arcsCheck}
+use Rattle.plan_lines.proofs.Counted.{arcs-next}
+use Rattle.plan_checks.proofs.Shown.{LineShown, line-there, line-shown, arcs-shown}
 use Rattle.reader.specs.Filling.{Fillable, between}
-use Rattle.reader.proofs.Lists.{stored}
-use Rattle.reader.proofs.Passing.{behind-within}
-use Rattle.reader.proofs.Shown.{LineShown, line-there, line-shown, line-arc, arcs-shown}
+use Rattle.reader.proofs.Lists.{filled-next, filled-length, filled-end}
 
 -- ---- a column of the arcs, as heads and costs are
 
-column-next : (f : PlanArc → ℕ) (done : List PlanArc) (arc : PlanArc) (words₀ words : List ℕ) (i : ℕ) → length done ≡ i → i < length words₀
-    → words ≡ map f done ++ drop i words₀ → set words i (f arc) ≡ map f (done ++ (arc ∷ [])) ++ drop (suc i) words₀
-column-next f done arc words₀ words i e l so =
-    ap (λ (list : List ℕ). set list i (f arc)) so
-    ∙ stored (map f done) words₀ i (f arc) (length-map done f ∙ e) l
-    ∙ sym (append-assoc (map f done) (f arc ∷ []) (drop (suc i) words₀))
-    ∙ ap (λ (filled : List ℕ). filled ++ drop (suc i) words₀) (sym (map-append f done (arc ∷ [])))
+module _ (f : PlanArc → ℕ) (done : List PlanArc) (words₀ words : List ℕ) (i : ℕ) (e : length done ≡ i)
+    (so : words ≡ map f done ++ drop i words₀) where
+  long : length (map f done) ≡ i
+  long = length-map done f ∙ e
 
-column-length : (f : PlanArc → ℕ) (done : List PlanArc) (words₀ words : List ℕ) (i : ℕ) → length done ≡ i → i ≤ length words₀
-    → words ≡ map f done ++ drop i words₀ → length words ≡ length words₀
-column-length f done words₀ words i e l so =
-    ap length so ∙ simp (length-append, length-map, length-drop) (omega arith)
+  column-next : (arc : PlanArc) → i < length words₀ → set words i (f arc) ≡ map f (done ++ (arc ∷ [])) ++ drop (suc i) words₀
+  column-next arc l =
+      filled-next (map f done) words₀ words i long so (f arc) l
+      ∙ ap (λ (filled : List ℕ). filled ++ drop (suc i) words₀) (sym (map-append f done (arc ∷ [])))
 
-column-end : (f : PlanArc → ℕ) (done arcs : List PlanArc) (words₀ words : List ℕ) (i : ℕ) → arcs ≡ done → length done ≡ i
-    → words ≡ map f done ++ drop i words₀ → words ≡ wordsAfter Passed (map f arcs) words₀
-column-end f done arcs words₀ words i same e so = so ∙ rw (same, length-map done f, e)
+  column-length : i ≤ length words₀ → length words ≡ length words₀
+  column-length l = filled-length (map f done) words₀ words i long so l
+
+  column-end : (arcs : List PlanArc) → arcs ≡ done → words ≡ wordsAfter Passed (map f arcs) words₀
+  column-end arcs same = filled-end (map f done) words₀ words i long so (map f arcs) (ap (map f) same)
 
 -- ---- the starts
 
@@ -81,8 +82,7 @@ pub record Progress (n m : ℕ) (bytes : List ℕ) (from : ℕ) (starts₀ heads
   pub given : Fillable n m bytes from starts₀ heads₀ costs₀
   pub before : ℕ
   pub done : List PlanArc
-  pub within : at ≤ length bytes
-  pub few : i ≤ m
+  pub reached : Reached 3 m bytes from at i
   pub passed : arcsCheck n (given .ceiling) (m - i) i before (drop at bytes) ≡ Passed
   pub all : linesArcs m (drop from bytes) ≡ done ++ linesArcs (m - i) (drop at bytes)
   pub count : length done ≡ i
@@ -100,8 +100,7 @@ module _ {n m : ℕ} {bytes : List ℕ} {from : ℕ} {starts heads costs : List 
     given = f;
     before = 0;
     done = [];
-    within = f .within;
-    few = omega arith;
+    reached = reached-start 3 m bytes from (f .within);
     passed = rw sub-zero (f .passed);
     all = rw sub-zero;
     count = refl;
@@ -119,10 +118,10 @@ module _ {n m : ℕ} {bytes : List ℕ} {from : ℕ} {starts₀ heads₀ costs�
   starts-same-length = starts-long _ starts₀ starts next next 0 (omega arith) (p .starts-so) (omega (arith, p .next-fits, p .given .starts-fit))
 
   pub heads-same-length : length heads ≡ length heads₀
-  heads-same-length = column-length _ (p .done) heads₀ heads i (p .count) (omega (arith, p .few, p .given .heads-fit)) (p .heads-so)
+  heads-same-length = column-length _ (p .done) heads₀ heads i (p .count) (p .heads-so) (omega (arith, p .reached .few, p .given .heads-fit))
 
   pub costs-same-length : length costs ≡ length costs₀
-  costs-same-length = column-length _ (p .done) costs₀ costs i (p .count) (omega (arith, p .few, p .given .costs-fit)) (p .costs-so)
+  costs-same-length = column-length _ (p .done) costs₀ costs i (p .count) (p .costs-so) (omega (arith, p .reached .few, p .given .costs-fit))
 
   -- the line of arc i
   module _ (l : i < m) where
@@ -147,7 +146,7 @@ module _ {n m : ℕ} {bytes : List ℕ} {from : ℕ} {starts₀ heads₀ costs�
           p .all
           ∙ ap (λ (rest : List PlanArc). p .done ++ rest)
           (ap (λ (count : ℕ). linesArcs count (drop at bytes)) left
-          ∙ line-arc n (p .given .ceiling) (m - suc i) i (p .before) (drop at bytes) line-passed e)
+          ∙ arcs-next (m - suc i) (drop at bytes) e)
 
       -- the nodes up to the tail have no arc from arc i on
       equal-starts : (v : ℕ) → next ≤ v → v < tail + 1 → tailsBelow v (linesArcs m (drop from bytes)) ≡ i
@@ -170,8 +169,7 @@ module _ {n m : ℕ} {bytes : List ℕ} {from : ℕ} {starts₀ heads₀ costs�
             given = p .given;
             before = tail;
             done = p .done ++ (arc ∷ []);
-            within = behind-within bytes at (p .within) e;
-            few = l;
+            reached = rw (add-one i) at (reached-next (p .reached) l (arc-line (drop at bytes) e));
             passed = rw place at (shown .behind);
             all = rw place at (behind ∙ sym (append-assoc (p .done) (arc ∷ []) (linesArcs (m - suc i) (drop taken (drop at bytes)))));
             count = length-append (p .done) (arc ∷ []) ∙ omega (arith, p .count);
@@ -181,8 +179,8 @@ module _ {n m : ℕ} {bytes : List ℕ} {from : ℕ} {starts₀ heads₀ costs�
                 below-append tailKey v (p .done) (arc ∷ [])
                 ∙ omega (arith, p .done-below v (omega (arith, next-not-past)), below-one tailKey v arc (omega arith));
             starts-so = starts-next (linesArcs m (drop from bytes)) starts₀ starts next (tail + 1) i next-not-past (p .starts-so) equal-starts;
-            heads-so = column-next (λ (arc : PlanArc). arc .head) (p .done) arc heads₀ heads i (p .count) (omega (arith, p .given .heads-fit)) (p .heads-so);
-            costs-so = column-next (λ (arc : PlanArc). arc .cost) (p .done) arc costs₀ costs i (p .count) (omega (arith, p .given .costs-fit)) (p .costs-so);
+            heads-so = column-next (λ (arc : PlanArc). arc .head) (p .done) heads₀ heads i (p .count) (p .heads-so) arc (omega (arith, p .given .heads-fit));
+            costs-so = column-next (λ (arc : PlanArc). arc .cost) (p .done) costs₀ costs i (p .count) (p .costs-so) arc (omega (arith, p .given .costs-fit));
           })
 
   pub progress-end : m ≤ i → Filled n (linesArcs m (drop from bytes)) starts₀ heads₀ costs₀ (between starts next (n + 1) m) heads costs
@@ -190,7 +188,7 @@ module _ {n m : ℕ} {bytes : List ℕ} {from : ℕ} {starts₀ heads₀ costs�
   progress-end l =
       let arcs = linesArcs m (drop from bytes) in
       let none-left : m - i ≡ 0 = omega arith in
-      let last : i ≡ m = omega (arith, p .few) in
+      let last : i ≡ m = omega (arith, p .reached .few) in
       let all : arcs ≡ p .done = rw none-left at (p .all) ∙ append-nil (p .done) in
       let below : (v : ℕ) → next ≤ v → v < n + 1 → tailsBelow v arcs ≡ m = λ v h b. ap (tailsBelow v) all ∙ p .done-below v h ∙ last in
       let ordered : numbered n arcs ≡ arcs = in-order arcs (arcs-shown n (p .given .ceiling) m 0 0 (drop from bytes) (p .given .passed) .rising) in
@@ -198,6 +196,6 @@ module _ {n m : ℕ} {bytes : List ℕ} {from : ℕ} {starts₀ heads₀ costs�
         starts-filled =
             starts-next arcs starts₀ starts next (n + 1) m (omega (arith, p .next-fits)) (p .starts-so) below
             ∙ rw (add-one n, starts-length tailKey 0 (suc n) arcs);
-        heads-filled = column-end (λ (arc : PlanArc). arc .head) (p .done) (numbered n arcs) heads₀ heads i (ordered ∙ all) (p .count) (p .heads-so);
-        costs-filled = column-end (λ (arc : PlanArc). arc .cost) (p .done) (numbered n arcs) costs₀ costs i (ordered ∙ all) (p .count) (p .costs-so);
+        heads-filled = column-end (λ (arc : PlanArc). arc .head) (p .done) heads₀ heads i (p .count) (p .heads-so) (numbered n arcs) (ordered ∙ all);
+        costs-filled = column-end (λ (arc : PlanArc). arc .cost) (p .done) costs₀ costs i (p .count) (p .costs-so) (numbered n arcs) (ordered ∙ all);
       }

@@ -1,7 +1,7 @@
 -- What was rendered is read back: line 1's numbers, the arcs, and their map. Assumes nothing.
 use Prim.Native.Nat.{ℕ}
 use native.Mathlib.Omega.{arith}
-use mathlib.Core.Path.{_≡_, refl, _∙_, ap, ap₂}
+use mathlib.Core.Path.{_≡_, refl, sym, _∙_, ap}
 use mathlib.Core.List.{List, [], _∷_, _++_}
 use lib.ListN.{length, drop, replicate}
 use lib.Seq.{drop-append-seam}
@@ -9,12 +9,14 @@ use Rattle.theory.specs.Runs.{inputs}
 use Rattle.fields.specs.Fields.{comma, renderLine}
 use Rattle.fields.proofs.Parsing.{FitFields}
 use Rattle.cursor.proofs.LinesRead.{numbers-rendered}
-use Rattle.reader.specs.declared.lines.ArcLine.the-variants.{ArcRead}
-use Rattle.reader.specs.declared.lines.HeaderLine.the-variants.{HeaderRead}
-use Rattle.reader.specs.Lines.{arcOf, arcLine, headerOf, headerLine}
-use Rattle.grouping.proofs.Valid.{same-map}
 use Rattle.grouping.specs.Arcs.{PlanArc, numbered, startsOf, headsOf, costsOf}
-use Rattle.reader.specs.Plans.{Header, headerNumbers, linesArcs, planOf, planRun}
+use Rattle.grouping.proofs.Valid.{same-map}
+use Rattle.plan_lines.specs.declared.ArcLine.the-variants.{ArcRead}
+use Rattle.plan_lines.specs.declared.HeaderLine.the-variants.{HeaderRead}
+use Rattle.plan_lines.specs.Lines.{arcOf, arcLine, headerLine}
+use Rattle.plan_lines.specs.Told.{linesArcs}
+use Rattle.plan_lines.proofs.Fields.{five-header}
+use Rattle.reader.specs.Plans.{headerNumbers, Plan, planOf, planRun}
 use Rattle.reader.specs.Rendering.{arcNumbers, renderArcs, renderHeader, renderPlan}
 
 -- Every number of the arcs fits a field.
@@ -39,16 +41,31 @@ arcs-read (arc ∷ arcs) fit =
 
 module _ (n C source K : ℕ) (arcs : List PlanArc) (fit : FitFields (n ∷ length arcs ∷ C ∷ source ∷ K ∷ [])) where
   pub header-rendered : headerLine (renderPlan n (length arcs) C source K arcs)
-      ≡ HeaderRead n (length arcs) C source K (length (renderHeader n (length arcs) C source K))
-  unfolding headerLine renderPlan
-  header-rendered = ap headerOf (numbers-rendered (n ∷ length arcs ∷ C ∷ source ∷ K ∷ []) (renderArcs arcs) fit (omega arith))
+      ≡ HeaderRead n (length arcs) C source K 0 (length (renderHeader n (length arcs) C source K))
+  unfolding renderPlan
+  header-rendered =
+      sym (five-header (renderPlan n (length arcs) C source K arcs) (numbers-rendered (n ∷ length arcs ∷ C ∷ source ∷ K ∷ []) (renderArcs arcs) fit (omega arith)))
 
   behind : drop (length (renderHeader n (length arcs) C source K)) (renderPlan n (length arcs) C source K arcs) ≡ renderArcs arcs
   unfolding renderPlan
   behind = drop-append-seam (renderHeader n (length arcs) C source K) (renderArcs arcs)
 
+  -- what a file of five fields tells, holds of 0 among it
+  abbrev toldPlan : Plan
+  toldPlan = record {
+    header = headerNumbers (HeaderRead n (length arcs) C source K 0 (length (renderHeader n (length arcs) C source K)));
+    arcs = arcs;
+    holds = replicate n 0;
+  }
+
+  plan-rendered : FitArcs arcs → planOf (renderPlan n (length arcs) C source K arcs) ≡ toldPlan
+  plan-rendered fits =
+      let read : linesArcs (length arcs) (drop (length (renderHeader n (length arcs) C source K)) (renderPlan n (length arcs) C source K arcs)) ≡ arcs =
+      ap (linesArcs (length arcs)) behind ∙ arcs-read arcs fits in
+      rw (header-rendered, read) refl
+
   pub arcs-rendered : FitArcs arcs → planOf (renderPlan n (length arcs) C source K arcs) .arcs ≡ arcs
-  arcs-rendered fits = rw header-rendered (ap (linesArcs (length arcs)) behind ∙ arcs-read arcs fits)
+  arcs-rendered fits = ap (λ (plan : Plan). plan .arcs) (plan-rendered fits)
 
 -- Arcs in any order have the map of the planning file with the same arcs grouped by tail (document 02, paper 1).
 module _ (n C source K : ℕ) (arcs : List PlanArc) where
@@ -57,7 +74,4 @@ module _ (n C source K : ℕ) (arcs : List PlanArc) where
 
   pub grouped-rendered : FitFields (n ∷ length told ∷ C ∷ source ∷ K ∷ []) → FitArcs told
       → planRun (planOf (renderPlan n (length told) C source K told)) ≡ inputs n C source (startsOf n arcs) (headsOf n arcs) (costsOf n arcs) (replicate n 0)
-  grouped-rendered fit fits =
-      ap₂ (λ (header : Header) (arcs : List PlanArc). planRun (record { header = header; arcs = arcs; holds = replicate (header .nodes) 0 }))
-      (ap headerNumbers (header-rendered n C source K told fit)) (arcs-rendered n C source K told fit fits)
-      ∙ same-map n C source arcs (replicate n 0)
+  grouped-rendered fit fits = ap planRun (plan-rendered n C source K told fit fits) ∙ same-map n C source arcs (replicate n 0)

@@ -1,5 +1,3 @@
-pub mod Lines
-pub mod Checking
 pub mod Plans
 pub mod Promise
 pub mod Rendering

@@ -1,47 +1,38 @@
 -- The map of a planning file (document 01, "Planning file" and "What the planner holds and leaves out").
-use Prim.Native.Nat.{ℕ, zero, suc}
-use mathlib.Core.List.{List, [], _∷_}
-use lib.ListN.{drop, replicate}
-use Rattle.reader.specs.declared.lines.ArcLine.{ArcLine}
-use Rattle.reader.specs.declared.lines.ArcLine.the-variants.{NoArc, ArcRead}
-use Rattle.reader.specs.declared.lines.HeaderLine.{HeaderLine}
-use Rattle.reader.specs.declared.lines.HeaderLine.the-variants.{NoHeader, HeaderRead}
+use Prim.Native.Nat.{ℕ}
+use mathlib.Core.List.{List}
+use lib.ListN.{drop}
 use Rattle.theory.specs.Runs.{Inputs, inputs}
 use Rattle.grouping.specs.Arcs.{PlanArc, startsOf, headsOf, costsOf}
-use Rattle.reader.specs.Lines.{arcLine, headerLine}
+use Rattle.plan_lines.specs.declared.HeaderLine.{HeaderLine}
+use Rattle.plan_lines.specs.declared.HeaderLine.the-variants.{NoHeader, HeaderRead}
+use Rattle.plan_lines.specs.Lines.{headerLine}
+use Rattle.plan_lines.specs.Told.{linesArcs, behindArcs, nodeHolds}
 
 -- ---- the numbers of the file
 
--- Line 1's five numbers, m as `count`, and the bytes that it takes (document 01, "Planning file").
+-- Line 1's numbers, m as `count`, the sixth as `held`, and the bytes that it takes (document 01, "Planning file"; document 02, paper 2).
 pub record Header : Type 0 where
   pub nodes : ℕ
   pub count : ℕ
   pub ceiling : ℕ
   pub source : ℕ
   pub segments : ℕ
+  pub held : ℕ
   pub taken : ℕ
 
 -- The numbers of line 1; a file without one is refused, and its numbers count as 0 (document 01, "What a call returns").
 abbrev pub headerNumbers : HeaderLine → Header
-headerNumbers NoHeader = record { nodes = 0; count = 0; ceiling = 0; source = 0; segments = 0; taken = 0 }
-headerNumbers (HeaderRead n m C source K taken) = record {
+headerNumbers NoHeader = record { nodes = 0; count = 0; ceiling = 0; source = 0; segments = 0; held = 0; taken = 0 }
+headerNumbers (HeaderRead n m C source K held taken) = record {
   nodes = n;
   count = m;
   ceiling = C;
   source = source;
   segments = K;
+  held = held;
   taken = taken;
 }
-
--- An arc's line, and the arcs behind the bytes that it takes.
-abbrev pub arcAndBehind : ArcLine → (behind : ℕ → List PlanArc) → List PlanArc
-arcAndBehind NoArc behind = []
-arcAndBehind (ArcRead tail head cost taken) behind = record { tail = tail; head = head; cost = cost } ∷ behind taken
-
--- The arcs of so many lines (document 01, "Planning file").
-unfoldable pub linesArcs : (left : ℕ) → List ℕ → List PlanArc
-linesArcs zero bytes = []
-linesArcs (suc left) bytes = arcAndBehind (arcLine bytes) (λ taken. linesArcs left (drop taken bytes))
 
 -- What a planning file tells: line 1's numbers, its arcs in the order of its lines, and a hold for each node (document 01, "Planning
 -- file"; document 02, paper 2).
@@ -51,15 +42,17 @@ pub record Plan : Type 0 where
   pub holds : List ℕ
 
 -- What a file tells whose line 1 has these numbers: behind the bytes that it takes, as many arcs as it says (document 01, "Planning
--- file"). Five fields mean holds of 0 (document 02, paper 2).
+-- file"), then the holds, where it says that they are told (document 02, paper 2).
 abbrev pub planUnder : Header → List ℕ → Plan
-planUnder header bytes = record {
-  header = header;
-  arcs = linesArcs (header .count) (drop (header .taken) bytes);
-  holds = replicate (header .nodes) 0;
-}
+planUnder header bytes =
+    let lines = drop (header .taken) bytes in
+    record {
+      header = header;
+      arcs = linesArcs (header .count) lines;
+      holds = nodeHolds (header .held) (header .nodes) (behindArcs (header .count) lines);
+    }
 
--- What the bytes of a file tell (document 01, "Planning file").
+-- What the bytes of a file tell (document 01, "Planning file"; document 02, paper 2).
 abbrev pub planOf : List ℕ → Plan
 planOf bytes = planUnder (headerNumbers (headerLine bytes)) bytes
 

@@ -9,8 +9,9 @@ use Rattle.model.specs.declared.Check.the-variants.{Passed, Fault}
 use Rattle.model.specs.Answers.{wordsAfter, allPassed}
 use Rattle.reader.specs.declared.PlanAnswer.{PlanAnswer}
 use Rattle.reader.specs.declared.PlanAnswer.the-variants.{Read, Refused}
-use Rattle.reader.specs.Checking.{planCheck}
-use Rattle.reader.specs.Plans.{Header, Plan, planOf, planStarts, planHeads, planCosts, planHolds}
+use Rattle.plan_lines.specs.declared.HeaderLine.{HeaderLine}
+use Rattle.plan_checks.specs.Checking.{headerLineCheck, planCheck}
+use Rattle.reader.specs.Plans.{Header, headerNumbers, Plan, planUnder, planOf, planStarts, planHeads, planCosts, planHolds}
 
 -- What the reader returns: number and place, then line 1's five numbers (document 01, "Planning file" and "What a call returns").
 pub record PlanNumbers : Type 0 where
@@ -63,6 +64,13 @@ pub record PlanAnswered (check : Check) (plan : Plan) (starts heads costs holds 
     pub heads-after : heads′ ≡ wordsAfter check (planHeads plan) heads
     pub costs-after : costs′ ≡ wordsAfter check (planCosts plan) costs
     pub holds-after : holds′ ≡ wordsAfter check (planHolds plan) holds
+
+-- The reader on a file whose line 1 is this one, or ill-formed (document 01, "Planning file" and "What a call returns"; document 02,
+-- paper 2).
+abbrev pub HeaderAnswered : HeaderLine → (bytes starts heads costs holds starts′ heads′ costs′ holds′ : List ℕ) → PlanAnswer → Type 0
+HeaderAnswered line bytes starts heads costs holds starts′ heads′ costs′ holds′ answer =
+    PlanAnswered (headerLineCheck line bytes (length starts) (length heads) (length costs) (length holds)) (planUnder (headerNumbers line) bytes)
+    starts heads costs holds starts′ heads′ costs′ holds′ answer
 
 -- The reader on every file (document 01, "Planning file" and "What a call returns").
 abbrev pub PlanPromised : (bytes starts heads costs holds starts′ heads′ costs′ holds′ : List ℕ) → PlanAnswer → Type 0

@@ -1,4 +1,4 @@
--- A planning file rendered from its numbers (document 01, "Planning file").
+-- A planning file that tells no holds, rendered from its numbers (document 01, "Planning file").
 use Prim.Native.Nat.{ℕ}
 use mathlib.Core.List.{List, [], _∷_, _++_}
 use Rattle.fields.specs.Fields.{comma, renderLine}
@@ -13,10 +13,10 @@ unfoldable pub renderArcs : List PlanArc → List ℕ
 renderArcs [] = []
 renderArcs (arc ∷ arcs) = renderLine comma (arcNumbers arc) ++ renderArcs arcs
 
--- Line 1: n, m, C, source, K (document 01, "Planning file").
+-- Line 1 of five fields: n, m, C, source, K (document 01, "Planning file").
 abbrev pub renderHeader : (n m C source K : ℕ) → List ℕ
 renderHeader n m C source K = renderLine comma (n ∷ m ∷ C ∷ source ∷ K ∷ [])
 
--- A planning file: line 1, then the lines of the arcs (document 01, "Planning file").
+-- A planning file that tells no holds: line 1, then the lines of the arcs (document 01, "Planning file").
 unfoldable pub renderPlan : (n m C source K : ℕ) → List PlanArc → List ℕ
 renderPlan n m C source K arcs = renderHeader n m C source K ++ renderArcs arcs

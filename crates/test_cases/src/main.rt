@@ -29,6 +29,7 @@ fn act(line: &[u8], map: &mut Map, file: &mut File, written: usize) -> usize {
         b'h' => bytes::append(file, written, line, row.text),
         b'b' => planning_file::fill_up(file, written, row),
         b'a' => planning_file::append_arcs(file, written, map, row),
+        b'n' => planning_file::append_holds(file, written, map, row),
         b'p' | b'i' => 0,
         _ => written,
     }

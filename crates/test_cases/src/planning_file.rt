@@ -1,4 +1,6 @@
-// The planning file that rows make, in one byte more than are taken (document 01, "Planning file").
+// The planning file that rows make, in one byte more than are taken (document 01, "Planning file", and for the lines of holds document 02,
+// paper 2).
+use crate::lists::HOLDS;
 use crate::lists::place;
 use crate::lists::quotient;
 use crate::lists::word_at;
@@ -34,6 +36,19 @@ pub fn append_arcs(file: &mut File, at: usize, map: &[u32], row: Row) -> usize {
     while arc < end {
         next = append_arc(file, next, map, arc, row.n3);
         arc += 1;
+    }
+    next
+}
+
+// Row: nodes FROM,END
+pub fn append_holds(file: &mut File, at: usize, map: &[u32], row: Row) -> usize {
+    let end = row.n2;
+    let mut next = at;
+    let mut node = row.n1;
+    while node < end {
+        let hold = word_at(map, HOLDS as usize + node as usize);
+        next = append_number(file, next, hold, b'\n');
+        node += 1;
     }
     next
 }

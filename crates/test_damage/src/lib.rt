@@ -152,11 +152,20 @@ fn damaged_byte(likely: &[u8], word: u64, place: u64) -> Pieces {
     }
 }
 
-// A file damaged in one way.
-fn any_pieces(bytes: &Text, length: u64, likely: &[u8], word: u64) -> Pieces {
+// Any place of a file from the first on.
+fn any_place(first: u64, length: u64, word: u64) -> u64 {
+    let part = words::product(
+        random::below(word, 1048576) as u64,
+        words::minus(length, first),
+    );
+    words::sum(first, part / 1048576)
+}
+
+// A file damaged in one way, at a place from the first on.
+fn any_pieces(bytes: &Text, first: u64, length: u64, likely: &[u8], word: u64) -> Pieces {
     let second = random::next(word);
     let third = random::next(second);
-    let place = words::product(random::below(third, 1048576) as u64, length) / 1048576;
+    let place = any_place(first, length, third);
     let kind = random::below(second, 8);
     match kind {
         0 => two_pieces(place, NOTHING, length),
@@ -166,11 +175,16 @@ fn any_pieces(bytes: &Text, length: u64, likely: &[u8], word: u64) -> Pieces {
     }
 }
 
-// A file damaged in a way that a word tells, and as many bytes behind it as make it so long.
-pub fn damaged(file: Rendered, likely: &[u8], word: u64, least: u64) -> Rendered {
+// A file damaged from a place on in a way that a word tells, and as many bytes behind it as make it so long.
+pub fn damaged_from(file: Rendered, first: u64, likely: &[u8], word: u64, least: u64) -> Rendered {
     let bytes = file.bytes;
-    let pieces = any_pieces(&bytes, file.length, likely, word);
+    let pieces = any_pieces(&bytes, first, file.length, likely, word);
     pieced(file, pieces, least)
+}
+
+// The same anywhere.
+pub fn damaged(file: Rendered, likely: &[u8], word: u64, least: u64) -> Rendered {
+    damaged_from(file, 0, likely, word, least)
 }
 
 // The first bytes of a file.

@@ -160,6 +160,12 @@ fn edge_word(case: Case, refusal: u32, left: u32, word: u64) -> u32 {
     }
 }
 
+// The cost of an arc and its tail's hold together are so much above the ceiling.
+pub fn put_sum(case: Case, arc: u64, above: u64, lists: &mut Lists) {
+    let left = left_for(case, lists, arc) as u64;
+    map::set(lists, map::COSTS, arc, sum(left, above));
+}
+
 // The map with a word that a refusal is about at an edge.
 pub fn words(case: Case, refusal: u32, word: u64, lists: &mut Lists) {
     let place = random::below(word, count_of(case, refusal)) as u64;

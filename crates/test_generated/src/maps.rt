@@ -26,6 +26,9 @@ pub const NO_ARCS: u32 = 9;
 
 pub const SAME_DEGREE: u32 = 10;
 
+// How many rules there are.
+pub const RULES: u32 = 11;
+
 // `measure` is the rule's own number: the most arcs of a node, a grid's width, a cost's factor.
 pub struct Map {
     pub rule: u32,

@@ -1,5 +1,7 @@
 // A planning file read into the lists of a map, and the text that `plan` prints of it (document 01, "Planning file" and "What a call
-// returns"). Its five-field header means holds of 0 (document 02, paper 2).
+// returns", and for the holds document 02, paper 2).
+use crate::holds;
+use crate::holds::LinesRead;
 use crate::printing;
 use crate::printing::Numbers;
 use crate::printing::Text;
@@ -88,36 +90,44 @@ fn take_arc(lists: &mut Lists, last: u64, line: ArcLine, arc: u64) {
     map::set(lists, map::COSTS, arc, line.cost);
 }
 
-// The lines of the arcs, up to the first that is refused, then what is left over.
-fn read_arcs(bytes: &[u8], header: Header, lists: &mut Lists) -> Refusal {
+// The lines of the arcs, up to the first that is refused.
+fn read_arcs(bytes: &[u8], header: Header, lists: &mut Lists) -> LinesRead {
     let m = header.arcs;
-    let mut from = header.next;
+    let mut next = header.next;
     let mut last = 0;
     let mut arc = 0;
     while arc < m {
-        let line = reading::read_arc(bytes, from);
+        let line = reading::read_arc(bytes, next);
         let found = arc_refusal(header, arc, last, line);
         if found.number != 0 {
-            return found;
+            return LinesRead { found, next };
         }
         take_arc(lists, last, line, arc);
-        from = line.next;
+        next = line.next;
         last = line.tail;
         arc += 1;
     }
     begin(lists, last, header.nodes, m);
-    if from != bytes.len() as u64 {
-        return refuse(11, words::sum(m, 2));
+    LinesRead {
+        found: refuse(0, 0),
+        next,
     }
-    refuse(0, 0)
 }
 
-fn clear_holds(n: u64, lists: &mut Lists) {
-    let mut v = 0;
-    while v < n {
-        map::set(lists, map::HOLDS, v, 0);
-        v += 1;
+// The lines behind line 1, what is left over behind them, then the sums.
+fn read_lines(bytes: &[u8], header: Header, lists: &mut Lists) -> Refusal {
+    let arcs = read_arcs(bytes, header, lists);
+    if arcs.found.number != 0 {
+        return arcs.found;
     }
+    let lines = holds::read(bytes, header, arcs.next, lists);
+    if lines.found.number != 0 {
+        return lines.found;
+    }
+    if lines.next != bytes.len() as u64 {
+        return refuse(11, holds::line_past(header));
+    }
+    holds::sum_refusal(header, lists)
 }
 
 // What a file with this line 1 is refused for; its arcs and holds are put into the lists, of which the first word is 0.
@@ -129,8 +139,7 @@ pub fn read(bytes: &[u8], header: Header, lists: &mut Lists) -> Refusal {
     if found.number != 0 {
         return found;
     }
-    clear_holds(header.nodes, lists);
-    read_arcs(bytes, header, lists)
+    read_lines(bytes, header, lists)
 }
 
 // The run that `plan` makes of a file that it takes.

@@ -94,6 +94,12 @@ pub fn word(output: &mut Text, at: u64, letters: &[u8]) -> u64 {
     place
 }
 
+// A line of one number.
+pub fn one(output: &mut Text, at: u64, first: u64) -> u64 {
+    let place = number(output, at, first);
+    put(output, place, 10)
+}
+
 // A line of three numbers.
 pub fn three(output: &mut Text, at: u64, first: u64, second: u64, third: u64) -> u64 {
     let numbers = Numbers {

@@ -1,5 +1,5 @@
-// The lines of a planning file (document 01, "Planning file"), field by field. What is read from NOWHERE is ill-formed, so that of a line
-// only the place past its last field tells whether all of it is well-formed.
+// The lines of a planning file (document 01, "Planning file", and for the sixth field and the holds document 02, paper 2), field by field.
+// What is read from NOWHERE is ill-formed, so that of a line only the place past its last field tells whether all of it is well-formed.
 use test_reference_map::words;
 
 // The place past an ill-formed field: no file is so long.
@@ -21,14 +21,22 @@ pub struct FieldRead {
     pub next: u64,
 }
 
-// Line 1, and the place past it.
+// Line 1, of five fields or with a sixth that says that holds follow the arcs, and the place past it.
 pub struct Header {
     pub nodes: u64,
     pub arcs: u64,
     pub ceiling: u64,
     pub source: u64,
     pub segments: u64,
+    pub with_holds: bool,
     pub next: u64,
+}
+
+// The fields of line 1 from the fifth on, and the place past it.
+struct HeaderEnd {
+    segments: u64,
+    with_holds: bool,
+    next: u64,
 }
 
 // The line of an arc, and the place past it.
@@ -88,19 +96,46 @@ pub fn field(bytes: &[u8], from: u64, last: u64) -> FieldRead {
     }
 }
 
+// K alone, or K and a field that is 1.
+fn header_end(bytes: &[u8], from: u64) -> HeaderEnd {
+    let last = field(bytes, from, LINE_FEED);
+    if last.next != NOWHERE {
+        return HeaderEnd {
+            segments: last.number,
+            with_holds: false,
+            next: last.next,
+        };
+    }
+    let segments = field(bytes, from, COMMA);
+    let sixth = field(bytes, segments.next, LINE_FEED);
+    if sixth.number != 1 {
+        return HeaderEnd {
+            segments: 0,
+            with_holds: false,
+            next: NOWHERE,
+        };
+    }
+    HeaderEnd {
+        segments: segments.number,
+        with_holds: true,
+        next: sixth.next,
+    }
+}
+
 pub fn read_header(bytes: &[u8]) -> Header {
     let nodes = field(bytes, 0, COMMA);
     let arcs = field(bytes, nodes.next, COMMA);
     let ceiling = field(bytes, arcs.next, COMMA);
     let source = field(bytes, ceiling.next, COMMA);
-    let segments = field(bytes, source.next, LINE_FEED);
+    let end = header_end(bytes, source.next);
     Header {
         nodes: nodes.number,
         arcs: arcs.number,
         ceiling: ceiling.number,
         source: source.number,
-        segments: segments.number,
-        next: segments.next,
+        segments: end.segments,
+        with_holds: end.with_holds,
+        next: end.next,
     }
 }
 
@@ -114,4 +149,9 @@ pub fn read_arc(bytes: &[u8], from: u64) -> ArcLine {
         cost: cost.number,
         next: cost.next,
     }
+}
+
+// The line of a hold.
+pub fn read_hold(bytes: &[u8], from: u64) -> FieldRead {
+    field(bytes, from, LINE_FEED)
 }

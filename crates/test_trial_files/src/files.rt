@@ -2,10 +2,8 @@
 // for the holds document 02, paper 2).
 use crate::expected;
 use crate::expected::Printed;
-use crate::rendering;
 use test_damage::Rendered;
 use test_generated::lists;
-use test_generated::random;
 use test_generated::tallies::Found;
 use test_reference_files::printing::Text;
 use test_reference_map::map;
@@ -151,7 +149,7 @@ fn differences(
 }
 
 // Both texts of a file.
-fn compare(file: Rendered) -> Found {
+pub fn compare(file: Rendered) -> Found {
     let mut lists = [0u32; 139296];
     let mut table = [0u64; 49152];
     let mut text = [88u8; 65544];
@@ -163,28 +161,4 @@ fn compare(file: Rendered) -> Found {
         number: printed.number,
         differences: differences(printed, answered, &text, &lists, &table),
     }
-}
-
-// So long that the program takes a file just or not any more; most are not made longer.
-fn least_length(number: u32) -> u64 {
-    match number % 100 {
-        7 => 65536,
-        9 => 65537,
-        _ => 0,
-    }
-}
-
-fn damaged_file(file: Rendered, number: u32) -> Rendered {
-    let word = random::seed(97, number);
-    test_damage::damaged(file, b",\n\r- 0", word, least_length(number))
-}
-
-// The planning file of a number: as it is to be, or of those damaged every second with edges in it and the others damaged.
-pub fn try_file(damaged: bool, number: u32) -> Found {
-    let even = number % 2 == 0;
-    let file = rendering::render_number(number, damaged & even);
-    if damaged & !even {
-        return compare(damaged_file(file, number));
-    }
-    compare(file)
 }

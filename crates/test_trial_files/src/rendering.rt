@@ -1,11 +1,5 @@
-// A map rendered as a planning file (document 01, "Planning file").
+// A map rendered as a planning file (document 01, "Planning file", and for the sixth field and the holds document 02, paper 2).
 use test_damage::Rendered;
-use test_generated::case;
-use test_generated::edges;
-use test_generated::holds;
-use test_generated::lists;
-use test_generated::maps;
-use test_generated::random;
 use test_reference_files::printing;
 use test_reference_files::printing::Numbers;
 use test_reference_files::printing::Text;
@@ -14,8 +8,33 @@ use test_reference_map::map;
 use test_reference_map::map::Lists;
 use test_reference_map::words;
 
-// Line 1: n, m, C, source and K.
-fn render_header(case: Case, bytes: &mut Text) -> u64 {
+// How line 1 ends behind K: with nothing, with the sixth field that tells of holds, or with one of those that no file has.
+pub const FIVE_FIELDS: u32 = 0;
+
+pub const SIX_FIELDS: u32 = 1;
+
+pub const ENDINGS: u32 = 6;
+
+// A planning file, and where the lines of its holds begin.
+pub struct PlanFile {
+    pub file: Rendered,
+    pub holds: u64,
+}
+
+// In place of the line feed behind K.
+fn render_ending(ending: u32, bytes: &mut Text, at: u64) -> u64 {
+    match ending {
+        FIVE_FIELDS => printing::word(bytes, at, b"\n"),
+        SIX_FIELDS => printing::word(bytes, at, b",1\n"),
+        2 => printing::word(bytes, at, b",0\n"),
+        3 => printing::word(bytes, at, b",2\n"),
+        4 => printing::word(bytes, at, b",01\n"),
+        _ => printing::word(bytes, at, b",1,1\n"),
+    }
+}
+
+// Line 1: n, m, C, source and K, and its ending.
+fn render_header(case: Case, ending: u32, bytes: &mut Text) -> u64 {
     let numbers = Numbers {
         count: 5,
         first: case.nodes as u64,
@@ -24,7 +43,8 @@ fn render_header(case: Case, bytes: &mut Text) -> u64 {
         fourth: case.source as u64,
         fifth: case.segments as u64,
     };
-    printing::line(bytes, 0, 0, numbers)
+    let at = printing::line(bytes, 0, 0, numbers);
+    render_ending(ending, bytes, words::minus(at, 1))
 }
 
 // The arcs of node v.
@@ -39,66 +59,42 @@ fn render_node(bytes: &mut Text, from: u64, v: u64, lists: &Lists) -> u64 {
     at
 }
 
-// The file of a map of n nodes, under the numbers of a case.
-fn render(case: Case, n: u64, lists: &Lists) -> Rendered {
-    let mut bytes = [0u8; 65544];
-    let mut at = render_header(case, &mut bytes);
+fn render_arcs(bytes: &mut Text, from: u64, n: u64, lists: &Lists) -> u64 {
+    let mut at = from;
     let mut v = 0;
     while v < n {
-        at = render_node(&mut bytes, at, v, lists);
+        at = render_node(bytes, at, v, lists);
         v += 1;
     }
-    Rendered { bytes, length: at }
+    at
 }
 
-// The words that `plan` lends hold 512 nodes and 2,048 arcs.
-fn any_nodes(kind: u32, kept: u32) -> u32 {
-    match kind {
-        0 => 512,
-        1 => 513,
-        _ => kept,
+fn render_holds(bytes: &mut Text, from: u64, count: u64, lists: &Lists) -> u64 {
+    let mut at = from;
+    let mut v = 0;
+    while v < count {
+        at = printing::one(bytes, at, map::hold(lists, v));
+        v += 1;
     }
+    at
 }
 
-fn any_arcs(kind: u32, kept: u32) -> u32 {
-    match kind {
-        2 => 2048,
-        3 => 2049,
-        _ => kept,
+// How many lines of holds there are: with five fields none, otherwise up to one more than nodes.
+fn hold_lines(case: Case, ending: u32, n: u64) -> u64 {
+    if ending == FIVE_FIELDS {
+        return 0;
     }
+    words::least(case.holds as u64, words::sum(n, 1))
 }
 
-fn at_edge_of_lists(case: Case, word: u64) -> Case {
-    let mut changed = case;
-    let kind = random::below(word, 4);
-    changed.nodes = any_nodes(kind, case.nodes);
-    changed.heads = any_arcs(kind, case.heads);
-    changed
-}
-
-// One or two numbers or words of the map are put to an edge.
-fn with_edges(case: Case, number: u32, word: u64, lists: &mut Lists) -> Case {
-    let refusal = number / 2 % 10 + 1;
-    let second = random::next(word);
-    if refusal == 10 {
-        return at_edge_of_lists(case, word);
+// The file of a map of n nodes, under the numbers of a case.
+pub fn render(case: Case, ending: u32, n: u64, lists: &Lists) -> PlanFile {
+    let mut bytes = [0u8; 65544];
+    let at = render_header(case, ending, &mut bytes);
+    let holds = render_arcs(&mut bytes, at, n, lists);
+    let length = render_holds(&mut bytes, holds, hold_lines(case, ending, n), lists);
+    PlanFile {
+        file: Rendered { bytes, length },
+        holds,
     }
-    edges::words(case, refusal, word, lists);
-    let changed = edges::numbers(case, refusal, word);
-    edges::numbers(changed, random::below(second, 21), random::next(second))
-}
-
-// The file of a number, with edges in it if they are asked for.
-pub fn render_number(number: u32, edged: bool) -> Rendered {
-    let mut lists = [lists::MAP; 139296];
-    let map = maps::small(maps::RANDOM, std::num::wrapping_add_u32(number, 300000));
-    let arcs = maps::fill(map, &mut lists);
-    holds::fill(map, holds::ZERO, 0, &mut lists);
-    let case = case::of_map(map, arcs, 0);
-    let n = map.nodes as u64;
-    if edged {
-        let changed = with_edges(case, number, map.seed, &mut lists);
-        return render(changed, n, &lists);
-    }
-    render(case, n, &lists)
 }

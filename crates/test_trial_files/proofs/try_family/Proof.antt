@@ -5,10 +5,10 @@ use Rattle.test_trial_files.proofs.try_family.Statement.{statement}
 use Rattle.test_trial_files.proofs.try_family.Tie as tie
 
 abbrev Inv-loop : tie.InvT-loop
-Inv-loop damaged count found₀ differences₀ number₀ found differences number = Unit
+Inv-loop family found₀ count differences₀ number₀ found differences number = Unit
 
 abbrev μ-loop : tie.MeasureT-loop
-μ-loop damaged count found₀ differences₀ number₀ found differences number = count - number
+μ-loop family found₀ count differences₀ number₀ found differences number = count - number
 
 pub try-family-spec : {M : Type 1} → statement M
 try-family-spec =
@@ -16,7 +16,9 @@ try-family-spec =
     (tie.spec
     Inv-loop
     μ-loop
+    (λ c κs. search needs)
     (λ c. search needs)
+    (λ c κs. search needs)
     (λ c κs. search needs)
     (λ c κs. search needs)
     (λ c κs. search needs)

@@ -4,9 +4,10 @@ use Prim.Native.Nat.{_-_, _<_}
 use native.Mathlib.Omega.{arith}
 use lib.ListN.{length, drop}
 use borrow.Author.Needs.{needs}
-use Rattle.reader.specs.declared.lines.ArcLine.the-variants.{ArcRead}
-use Rattle.reader.specs.Lines.{arcLine}
-use Rattle.reader.proofs.Passing.{behind-within}
+use Rattle.plan_lines.specs.declared.ArcLine.the-variants.{ArcRead}
+use Rattle.plan_lines.specs.Lines.{arcLine}
+use Rattle.plan_lines.proofs.Reach.{next-within, reached-end}
+use Rattle.plan_lines.proofs.Fields.{arc-line}
 use Rattle.reader.proofs.Progress.{Progress, progress-start, progress-next, progress-end, line-read, shown, next-not-past, starts-same-length, heads-same-length, costs-same-length}
 use Rattle.reader.proofs.filling.fill.Statement.{statement}
 use Rattle.reader.proofs.filling.fill.Tie as tie
@@ -76,7 +77,7 @@ cost-fits c = let p = loop-of c .loop .inv in omega (arith, c .loop-test .taken,
 add-line : tie.Need-add-line Inv-loop μ-loop
 add-line c =
     let a : tie.After-tail Inv-loop μ-loop = search needs in
-    omega (arith, behind-within (entry (l a) .args .bytes .now) (l a .loop .line) (l a .loop .inv .within) (arc-read a))
+    omega (arith, next-within (entry (l a) .args .bytes .now) (l a .loop .line) (l a .loop .inv .reached .within) (arc-line _ (arc-read a)))
 
 loop-again : tie.Need-loop-again Inv-loop μ-loop
 loop-again c =
@@ -89,19 +90,25 @@ loop-again c =
 abbrev ended : tie.After-fill-between2 Inv-loop μ-loop → tie.After-loop Inv-loop μ-loop
 ended c = search needs
 
+abbrev last : tie.After-fill-between2 Inv-loop μ-loop → tie.At-loop Inv-loop μ-loop
+last c = search needs
+
 fill-between-requires-2 : tie.Need-fill-between-requires-2 Inv-loop μ-loop
 fill-between-requires-2 c κs =
-    let p = c .before .before .loop .inv in
+    let at-end : tie.At-loop Inv-loop μ-loop = search needs in
+    let p = at-end .loop .inv in
     (omega (arith, p .next-fits), omega (arith, starts-same-length p, p .given .starts-fit))
 
 same-length-4 : tie.Need-same-length-4 Inv-loop μ-loop
 same-length-4 c =
-    let f : tie.After-fill-between2 Inv-loop μ-loop = search needs in f .fill-between2 .kept .0 ∙ starts-same-length (ended f .before .loop .inv)
+    let f : tie.After-fill-between2 Inv-loop μ-loop = search needs in f .fill-between2 .kept .0 ∙ starts-same-length (last f .loop .inv)
 
 returns-2 : tie.Need-returns-2 Inv-loop μ-loop
 returns-2 c =
     let f : tie.After-fill-between2 Inv-loop μ-loop = search needs in
-    rw (f .fill-between2 .ensures) (progress-end (ended f .before .loop .inv) (ended f .loop-test .left))
+    let p = last f .loop .inv in
+    let all = ended f .loop-test .left in
+    (reached-end (p .reached) all, rw (f .fill-between2 .ensures) (progress-end p all))
 
 pub fill-spec : {M : Type 1} → statement M
 fill-spec =
@@ -110,7 +117,7 @@ fill-spec =
     Inv-loop
     μ-loop
     (λ c. let s : tie.Start Inv-loop μ-loop = search needs in progress-start (s .pre))
-    (λ c κs. c .before .loop .inv .within)
+    (λ c κs. loop-of c .loop .inv .reached .within)
     (λ c. search needs)
     (λ c. search needs)
     (λ c. absurd (missing c))

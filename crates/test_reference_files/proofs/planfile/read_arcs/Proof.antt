@@ -5,10 +5,10 @@ use Rattle.test_reference_files.proofs.planfile.read_arcs.Statement.{st
 use Rattle.test_reference_files.proofs.planfile.read_arcs.Tie as tie
 
 abbrev Inv-loop : tie.InvT-loop
-Inv-loop bytes header lists₀ m from₀ last₀ arc₀ lists from last arc = Unit
+Inv-loop bytes header lists₀ m next₀ last₀ arc₀ lists next last arc = Unit
 
 abbrev μ-loop : tie.MeasureT-loop
-μ-loop bytes header lists₀ m from₀ last₀ arc₀ lists from last arc = m - arc
+μ-loop bytes header lists₀ m next₀ last₀ arc₀ lists next last arc = m - arc
 
 pub read-arcs-spec : {M : Type 1} → statement M
 read-arcs-spec =
@@ -25,8 +25,5 @@ read-arcs-spec =
     (λ c. search needs)
     (λ c. search needs)
     (λ c κs. search needs)
-    (λ c κs. search needs)
-    (λ c κs. search needs)
-    (λ c. search needs)
     (λ c κs. search needs)
     (λ c. search needs))

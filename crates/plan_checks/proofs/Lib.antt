@@ -1,0 +1,4 @@
+pub mod Held
+mod Passing
+pub mod Shown
+mod Whole
