@@ -132,7 +132,7 @@ enum roosternow_refusal {
     ROOSTERNOW_SHORT_ROUTE = 17,
     ROOSTERNOW_BAD_ROAD_LINE = 18,  /* roosternow_read_dimacs only; place: line from 1 */
     ROOSTERNOW_BAD_ROAD_ORDER = 19, /* roosternow_read_dimacs only; place: line from 1 */
-    ROOSTERNOW_BAD_HOLD = 20        /* the runs only; place: least node, and 0 for a list that is not n words */
+    ROOSTERNOW_BAD_HOLD = 20        /* place: least node; the runs: also 0 for a list that is not n words */
 };
 
 /* A refusal in words. */
@@ -268,15 +268,19 @@ void roosternow_route(uint32_t n, uint32_t source,
                       uint64_t numbers[ROOSTERNOW_LENT(ROOSTERNOW_ROUTE_NUMBERS)]);
 
 /*
- * The map of a planning file. Line 1 is n,m,C,source,K; then m lines tail,head,cost with tails never falling. A field is 1 to 7 digits with
- * no leading zero except 0 itself. Each line ends in one line feed, the last too. Such a file means holds of 0.
+ * The map of a planning file. Line 1 is n,m,C,source,K; then m lines tail,head,cost with tails never falling. Where line 1 has a sixth field,
+ * which is 1, it tells holds: n lines of one hold each stand behind the arcs, that of node 0 first. Without it holds are 0. A field is 1 to 7
+ * digits with no leading zero except 0 itself. Each line ends in one line feed, the last too.
  *
- * Needs: the file's bytes; n + 1 words of starts, m words of each of heads and costs and n words of holds at least.
- * Gives: n + 1 starts, m heads, m costs and n holds of 0, as the runs take them; numbers: 0, 0, n, m, C, source, K. Both runs accept such a
- *   map.
- * Refuses: line 1 by 11, 1, 4, 2, 3, 9, then 10 with place 0 starts, 1 heads, 2 costs, 3 holds; then each line by 11, 12, 7, 8; then
- *   left-over bytes by 11; in this order, the first found.
- * Costs: time in proportion to the bytes and n, the bytes read twice; stack below 1 KB.
+ * Needs: the file's bytes; n + 1 words of starts, m words of each of heads and costs and n words of holds at least, whether it tells holds or
+ *   not.
+ * Gives: n + 1 starts, m heads, m costs and n holds, as the runs take them; numbers: 0, 0, n, m, C, source, K. Both runs accept such a map.
+ * Refuses: line 1 by 11, 1, 4, 2, 3, 9, then 10 with place 0 starts, 1 heads, 2 costs, 3 holds; then each arc's line by 11, 12, 7, 8 (the cost
+ *   by itself); each hold's line by 11, 20; then left-over bytes by 11; then 8 with the least arc whose cost is above C together with the hold
+ *   of its tail, the source's arcs included; in this order, the first found. Lines are counted from 1: arc a has line a + 2, the hold of
+ *   node v line m + 2 + v.
+ * Costs: time in proportion to the bytes and n, the bytes read twice, those of a file that tells holds three times, and with
+ *   each arc once more its tail's hold; stack below 1 KB.
  */
 void roosternow_read(const uint8_t *bytes, size_t bytes_length,
                      uint32_t *starts, size_t starts_words,

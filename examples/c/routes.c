@@ -6,7 +6,7 @@
 
 #define NODES ROOSTERNOW_MOST_NODES
 #define ARCS ROOSTERNOW_MOST_ARCS
-#define MOST_BYTES (24u * (ARCS + 2u)) /* a field has at most 7 digits and a byte that ends it: three in an arc's line, five in line 1 */
+#define MOST_BYTES (8u * (6u + 3u * ARCS + NODES)) /* a field has at most 7 digits and a byte that ends it; six in line 1, three for an arc */
 
 static uint8_t bytes[MOST_BYTES];
 static uint32_t starts[ROOSTERNOW_STARTS(NODES)], heads[ARCS], costs[ARCS], holds[NODES];

@@ -28,7 +28,7 @@ enum function { ONE_LEVEL, TWO_LEVEL, ROUTE, READ, READ_DIMACS, ANSWER, FUNCTION
 #define REFUSALS 21
 
 static const char *const names[FUNCTIONS] = {"one_level", "two_level", "route", "read", "read_dimacs", "answer"};
-static uint64_t told[FUNCTIONS][REFUSALS];
+static uint64_t told[FUNCTIONS][REFUSALS], told_held[FUNCTIONS], told_sums[FUNCTIONS];
 static uint64_t input;
 
 static void expect(bool holds, const char *what) {
@@ -324,18 +324,27 @@ static void call_route(uint32_t damage) {
 
 static struct plain_file file;
 
-/* The map of the lists, but for its holds, as a planning file; a line has at most three numbers of 10 digits. */
+/* What stands behind K in line 1: nothing, or 1 where holds are told; now and then something else. */
+static const char *some_sixth(bool held) {
+    static const char *const others[] = {",0", ",2", ",01", ",", ",1,1", ",1,0", ",10"};
+    if (one_in(60)) return others[below(sizeof others / sizeof others[0])];
+    return held ? ",1" : "";
+}
+
+/* The map of the lists as a planning file, with its holds or without. A line has at most three numbers of 10 digits, line 1 five and a few bytes. */
 static void write_file(void) {
     char *text = (char *)bytes_of(&bytes);
     size_t room = bytes.capacity;
     size_t m = heads.length, told_arcs = one_in(300) ? 65535 + below(4) : m;
-    size_t at = (size_t)snprintf(text, room, "%" PRIu32 ",%zu,%" PRIu32 ",%" PRIu32 ",%" PRIu32 "\n", map.n, told_arcs, map.ceiling,
-                                 map.source, segments);
+    bool held = !one_in(3);
+    size_t at = (size_t)snprintf(text, room, "%" PRIu32 ",%zu,%" PRIu32 ",%" PRIu32 ",%" PRIu32 "%s\n", map.n, told_arcs, map.ceiling,
+                                 map.source, segments, some_sixth(held));
     uint32_t tail = 0;
     for (uint32_t a = 0; a < m; a++) {
         while (tail + 1 < map.n && tail + 1 < starts.length && words_of(&starts)[tail + 1] <= a) tail++;
         at += (size_t)snprintf(text + at, room - at, "%" PRIu32 ",%" PRIu32 ",%" PRIu32 "\n", tail, words_of(&heads)[a], words_of(&costs)[a]);
     }
+    for (size_t v = 0; held && v < holds.length; v++) at += (size_t)snprintf(text + at, room - at, "%" PRIu32 "\n", words_of(&holds)[v]);
     bytes.length = at;
 }
 
@@ -375,6 +384,22 @@ static void lend_map(uint32_t damage) {
     lend(&costs, one_in(damage) ? below(m + 1) : m + below(4)), keep(&costs);
 }
 
+/* Whether both runs take the map that plain.h has read. */
+static bool is_runnable(void) {
+    static const size_t enough[4] = {PLAIN_NODES, PLAIN_NODES, PLAIN_NODES, 4 * PLAIN_NODES + 384};
+    struct plain_map read = {file.n, file.ceiling, file.source, file.starts, file.heads, file.costs, file.holds,
+                             (size_t)file.n + 1, file.m, file.m, file.n};
+    return plain_run_check(&read, false, 0, enough).number == 0 && plain_run_check(&read, true, file.K, enough).number == 0;
+}
+
+/* What a planning file was told: of the refusals 8, those for a sum are counted apart, which come behind every line. */
+static void tell_file(enum function function, struct plain_fault fault) {
+    told[function][fault.number]++;
+    told_held[function] += fault.number == 0 && file.held;
+    told_sums[function] += fault.number == 8 && file.costs[fault.place] <= file.ceiling;
+    if (fault.number == 0) expect(is_runnable(), "plain.h: a file that is read is a map that a run refuses");
+}
+
 /* The map of the file in the lists of both readers, or every word as it was. */
 static void compare_read(bool accepted) {
     compare(&bytes, NULL, 0, "read: bytes changed");
@@ -395,7 +420,7 @@ static void call_read(uint32_t damage) {
     if (accepted) {
         expected[2] = file.n, expected[3] = file.m, expected[4] = file.ceiling, expected[5] = file.source, expected[6] = file.K;
     }
-    told[READ][fault.number]++;
+    tell_file(READ, fault);
     compare(&run_numbers, expected, ROOSTERNOW_READ_NUMBERS, "read: numbers");
     compare_read(accepted);
     compare(&holds, file.holds, accepted ? file.n : 0, "read: holds");
@@ -506,7 +531,7 @@ static void call_answer(void) {
     static const size_t lent[4] = {ROOSTERNOW_ANSWER_STARTS, ROOSTERNOW_ANSWER_ARCS, ROOSTERNOW_ANSWER_ARCS, ROOSTERNOW_ANSWER_NODES};
     struct plain_fault fault = plain_fault(13, 0);
     if (bytes.length <= ROOSTERNOW_ANSWER_INPUT) fault = plain_read(bytes_of(&bytes), bytes.length, lent, &file);
-    told[ANSWER][fault.number]++;
+    tell_file(ANSWER, fault);
     compare_answer(fault, length);
 }
 
@@ -562,7 +587,7 @@ static void call_from_threads(void) {
 
 /* Every refusal that a function can make has to be seen, as rows of the documents' table. */
 static void report(uint64_t inputs) {
-    static const uint32_t possible[FUNCTIONS] = {0x1005FF, 0x1007FF, 0x3C4FB, 0x1F9F, 0xC1597, 0x3F9F};
+    static const uint32_t possible[FUNCTIONS] = {0x1005FF, 0x1007FF, 0x3C4FB, 0x101F9F, 0xC1597, 0x103F9F};
     for (int function = 0; function < FUNCTIONS; function++) {
         uint64_t calls = 0;
         printf("%-11s", names[function]);
@@ -572,8 +597,12 @@ static void report(uint64_t inputs) {
             bool seen = told[function][number] > 0, can = possible[function] >> number & 1;
             if (inputs >= 100000) expect(seen == can, "a refusal was never told, or one that is not the function's");
         }
+        if (told_held[function]) printf(" with holds:%" PRIu64, told_held[function]);
+        if (told_sums[function]) printf(" 8 for a sum:%" PRIu64, told_sums[function]);
         printf(" calls:%" PRIu64 "\n", calls);
         expect(calls >= inputs, "too few calls");
+        bool planning = inputs >= 100000 && (function == READ || function == ANSWER);
+        expect(!planning || (told_held[function] && told_sums[function]), "no file with holds, or none with a sum above its ceiling");
     }
 }
 

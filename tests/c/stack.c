@@ -82,18 +82,20 @@ static void lay_chain(void) {
     }
 }
 
+/* Four arcs to a node, the last the dearest; its hold leaves nothing of the ceiling for that one. */
 static void write_file(void) {
-    file_length = (size_t)sprintf((char *)file, "%d,%d,1048575,0,64\n", FILE_NODES, FILE_ARCS);
+    file_length = (size_t)sprintf((char *)file, "%d,%d,1048575,0,64,1\n", FILE_NODES, FILE_ARCS);
     for (int a = 0; a < FILE_ARCS; a++) {
-        file_length += (size_t)sprintf((char *)file + file_length, "%d,%d,%d\n", a / 4, (a * 7 + 1) % FILE_NODES, a * 509 % 1048576);
+        file_length += (size_t)sprintf((char *)file + file_length, "%d,%d,%d\n", a / 4, (a * 7 + 1) % FILE_NODES, a * 509);
     }
+    for (int v = 0; v < FILE_NODES; v++) file_length += (size_t)sprintf((char *)file + file_length, "%d\n", 1048575 - (4 * v + 3) * 509);
 }
 
 /* The same arcs, those of the last node first. */
 static void write_road(void) {
     file_length = (size_t)sprintf((char *)file, "c\np sp %d %d\n", FILE_NODES, FILE_ARCS);
     for (int a = FILE_ARCS - 1; a >= 0; a--) {
-        file_length += (size_t)sprintf((char *)file + file_length, "a %d %d %d\n", a / 4 + 1, (a * 7 + 1) % FILE_NODES + 1, a * 509 % 1048576);
+        file_length += (size_t)sprintf((char *)file + file_length, "a %d %d %d\n", a / 4 + 1, (a * 7 + 1) % FILE_NODES + 1, a * 509);
     }
 }
 
