@@ -7,9 +7,9 @@ use Rattle.route.specs.Routes.{RouteNumbers}
 use Rattle.reader.specs.Promise.{PlanNumbers}
 use Rattle.dimacs.specs.Promise.{DimacsNumbers}
 
--- The counts: decreases, placements and looks (document 01, "The tallies").
+-- The counts: decreases, placements, looks and reads (document 01, "The tallies"; document 02, paper 3).
 abbrev pub countsAsWords : Counts → List ℕ
-countsAsWords counts = counts .decreases ∷ counts .placements ∷ counts .looks ∷ []
+countsAsWords counts = counts .decreases ∷ counts .placements ∷ counts .looks ∷ counts .reads ∷ []
 
 -- Number and place, then r, B and the counts (document 01, "What the planner holds and leaves out" and "What a call
 -- returns").

@@ -10,7 +10,7 @@ ghost use Rattle.reader.specs.Promise.{planNumbersOf};
 ghost use Rattle.dimacs.specs.Promise.{dimacsNumbersOf};
 ghost use Rattle.answer_words.specs.Words.{runWords, routeWords, readWords, dimacsWords};
 
-pub fn run_words(answer: RunAnswer) -> [u64; 7]
+pub fn run_words(answer: RunAnswer) -> [u64; 8]
     ensures { λ r. ⌜ r ≡ runWords (numbersOf answer) ⌝ }
 {
     match answer {
@@ -26,8 +26,9 @@ pub fn run_words(answer: RunAnswer) -> [u64; 7]
             counts.decreases as u64,
             counts.placements as u64,
             counts.looks as u64,
+            counts.reads as u64,
         ],
-        RunAnswer::Refused { number, place } => [number as u64, place as u64, 0, 0, 0, 0, 0],
+        RunAnswer::Refused { number, place } => [number as u64, place as u64, 0, 0, 0, 0, 0, 0],
     }
 }
 

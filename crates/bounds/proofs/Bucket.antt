@@ -1,10 +1,12 @@
--- The search for the bucket of a key (document 01, "One-level heap").
+-- The search for the bucket of a key, and the bounds that it reads (document 01, "One-level heap"; document 02, paper 3).
 use Prim.Native.Nat.{ℕ, zero, suc, _+_, _-_, _≤_, _<_}
 use native.Mathlib.Omega.{arith}
-use mathlib.Core.Path.{_≡_, refl, sym, _∙_}
+use mathlib.Core.Path.{_≡_, refl}
+use mathlib.Core.Bool.{Bool, true, false, cond}
 use mathlib.Core.List.{List}
+use lib.Dec.{ltb}
 use borrow.Author.Tests.{lt-ltb, le-ltb}
-use Rattle.theory.specs.Heap.{bound, bucketFrom}
+use Rattle.theory.specs.Heap.{bound, bucketFrom, readsFrom}
 
 -- Bounds that agree from 1 to where the search starts give the same bucket.
 pub bucketFrom-same : (u u′ : List ℕ) (x start : ℕ) → ((i : ℕ) → 1 ≤ i → i ≤ start → bound u i ≡ bound u′ i)
@@ -27,11 +29,30 @@ bucket-below u x zero l h = absurd (omega arith)
 bucket-below u x (suc i) l h =
     let e : suc i - 1 ≡ i = omega arith in rw (e, le-ltb (bound u (suc i)) x h)
 
--- A key up to the bound of bucket i, and above the bound of the bucket below if there is one, belongs in bucket i.
-pub bucket-first : (u : List ℕ) (x : ℕ) → x ≤ bound u 1 → bucketFrom u x 1 ≡ 1
-unfolding bucketFrom
-bucket-first u x h = sym (bucket-below u x 1 (omega arith) h)
+-- The same of the bounds that are read.
+pub reads-same : (u u′ : List ℕ) (x start : ℕ) → ((i : ℕ) → 1 ≤ i → i ≤ start → bound u i ≡ bound u′ i)
+    → readsFrom u x start ≡ readsFrom u′ x start
+unfolding readsFrom
+reads-same u u′ x zero same = refl
+reads-same u u′ x (suc i) same = rw (same (suc i) (omega arith) (omega arith), reads-same u u′ x i (λ k l h. same k l (omega arith)))
 
-pub bucket-inside : (u : List ℕ) (x i : ℕ) → 2 ≤ i → bound u (i - 1) < x → x ≤ bound u i → bucketFrom u x i ≡ i
-bucket-inside u x i l h k =
-    let e : i - 1 + 1 ≡ i = omega arith in sym (bucket-below u x i (omega arith) k) ∙ bucket-above u x (i - 1) (omega arith) h ∙ e
+pub reads-above : (u : List ℕ) (x i : ℕ) → 1 ≤ i → bound u i < x → readsFrom u x i ≡ 1
+unfolding readsFrom
+reads-above u x zero l h = absurd (omega arith)
+reads-above u x (suc i) l h = rw (lt-ltb (bound u (suc i)) x h)
+
+pub reads-below : (u : List ℕ) (x i : ℕ) → 1 ≤ i → x ≤ bound u i → readsFrom u x i ≡ readsFrom u x (i - 1) + 1
+unfolding readsFrom
+reads-below u x zero l h = absurd (omega arith)
+reads-below u x (suc i) l h =
+    let e : suc i - 1 ≡ i = omega arith in rw (e, le-ltb (bound u (suc i)) x h) (omega arith)
+
+-- No more bounds are read than there are from where the search starts.
+pub reads-most : (u : List ℕ) (x i : ℕ) → readsFrom u x i ≤ i
+unfolding readsFrom
+reads-most u x zero = omega arith
+reads-most u x (suc i) = go (ltb (bound u (suc i)) x) (reads-most u x i)
+  where
+    go : (t : Bool) → readsFrom u x i ≤ i → suc (cond t 0 (readsFrom u x i)) ≤ suc i
+    go true h = omega arith
+    go false h = omega arith

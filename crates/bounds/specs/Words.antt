@@ -4,10 +4,10 @@ use Prim.Native.Nat.{ℕ, _+_, _-_, _*_, _/_, _≤_, _<_}
 use mathlib.Core.Path.{_≡_}
 use mathlib.Core.Bool.{Bool, true, cond, _&&_}
 use mathlib.Core.List.{List, _++_}
-use lib.Dec.{ltb, eqb}
+use lib.Dec.{ltb}
 use lib.ListN.{length, getD, take, drop}
 use Rattle.theory.specs.Shape.{Shape}
-use Rattle.theory.specs.Heap.{bound, bucketFrom, rebound, boundsFrom}
+use Rattle.theory.specs.Heap.{bound, rebound, boundsFrom}
 
 -- The bounds in the words of a heap of n nodes: u(i) is words[4 * n + i] (document 01, "One-level heap").
 abbrev pub boundsOf : (n : ℕ) → List ℕ → List ℕ
@@ -51,20 +51,9 @@ pub record Sized (B : ℕ) (sizes : List ℕ) : Type 0 where
   pub long : length sizes ≡ 22
   pub positive : (i : ℕ) → i < B → 0 < sizeOf sizes i
 
--- Key x is above the bound of the bucket below bucket i, if there is one (document 01, "One-level heap").
-unfoldable pub inBucket : (n : ℕ) → (words : List ℕ) → (i x : ℕ) → Bool
-inBucket n words i x = cond (eqb i 1) true (ltb (bound (boundsOf n words) (i - 1)) x)
-
--- Key x, which is below the upper end of segment k of bucket i, is above its lower end (document 01, "Two-level heap").
-unfoldable pub inSegment : (B K : ℕ) → (sizes words : List ℕ) → (n i k x : ℕ) → Bool
-inSegment B K sizes words n i k x =
-    cond (segmented B K i) (ltb (segmentEnd B K sizes i (bound (boundsOf n words) i) k - x) (sizeOf sizes (i - 1))) true
-
--- Key x belongs in segment k of bucket i, where the search for it from that bucket down ends (document 01, "One-level heap" and
--- "Two-level heap").
-pub record Inside (B K : ℕ) (sizes words : List ℕ) (n i k x : ℕ) : Type 0 where
-  pub bucket : bucketFrom (boundsOf n words) x i ≡ i
-  pub segment : segmented B K i ≡ true → segmentNumber B K sizes i (bound (boundsOf n words) i) x ≡ k
+-- Key x, which is below the upper end of segment k of bucket i whose bound is u, is above its lower end (document 01, "Two-level heap").
+unfoldable pub inSegment : (B K : ℕ) → (sizes : List ℕ) → (i u k x : ℕ) → Bool
+inSegment B K sizes i u k x = cond (segmented B K i) (ltb (segmentEnd B K sizes i u k - x) (sizeOf sizes (i - 1))) true
 
 -- B, K and the list of sizes say of a heap what its shape does (document 01, "One-level heap" and "Two-level heap").
 pub record Agrees (sh : Shape) (B K : ℕ) (sizes : List ℕ) : Type 0 where

@@ -4,11 +4,10 @@
 //     sizes[i]            the size of bucket i, for 1 ≤ i < B, and 1 at i = 0: a segment of bucket i is sizes[i - 1] keys wide
 // The one-level heap has one segment to a bucket.
 ghost use mathlib.Core.Path.{_≡_};
-ghost use mathlib.Core.Bool.{_&&_};
 ghost use Prim.Native.Nat.{_+_, _*_, _≤_, _<_, min};
 ghost use lib.ListN.{length};
-ghost use Rattle.theory.specs.Heap.{bound, bucketFrom};
-ghost use Rattle.bounds.specs.Words.{boundsOf, reboundWords, firstWords, segmented, segmentNumber, segmentEnd, inBucket, inSegment, Sized};
+ghost use Rattle.theory.specs.Heap.{bound, bucketFrom, readsFrom};
+ghost use Rattle.bounds.specs.Words.{boundsOf, reboundWords, firstWords, segmented, segmentNumber, segmentEnd, inSegment, Sized};
 
 // u(i).
 pub fn bound_of(words: &[u32], n: usize, i: usize) -> u32
@@ -18,19 +17,60 @@ pub fn bound_of(words: &[u32], n: usize, i: usize) -> u32
     words[4 * n + i]
 }
 
-// The bucket of a key, searched for from bucket `start` down.
-pub fn bucket_of(words: &[u32], n: usize, key: u32, start: usize) -> usize
+// The bucket of a key, and the bounds that the search for it has read (document 02, paper 3).
+pub struct Searched {
+    pub bucket: usize,
+    pub reads: u32,
+}
+
+// The bucket of a key, searched for from bucket `start` down. The bounds are read one by one, so how many there were is told from where the
+// search ends: no second count runs beside it.
+pub fn bucket_of(words: &[u32], n: usize, key: u32, start: usize) -> Searched
     requires { ⌜ 4 * n + start < length (now words) ⌝ }
-    ensures { λ r. ⌜ r ≡ bucketFrom (boundsOf n (now (words .entry))) key start ⌝ }
+    requires { ⌜ start ≤ 32 ⌝ }
+    ensures { λ r. ⌜ (r .bucket ≡ bucketFrom (boundsOf n (now (words .entry))) key start)
+        × (r .reads ≡ readsFrom (boundsOf n (now (words .entry))) key start) ⌝ }
 {
     let mut i = start;
     while 0 < i {
         if bound_of(words, n, i) < key {
-            return i + 1;
+            return Searched {
+                bucket: i + 1,
+                reads: (start - i + 1) as u32,
+            };
         }
         i -= 1;
     }
-    1
+    Searched {
+        bucket: 1,
+        reads: start as u32,
+    }
+}
+
+// The same for a key that is no higher than the bound of the bucket where the search begins, and that bound.
+pub struct Held {
+    pub bound: u32,
+    pub bucket: usize,
+    pub reads: u32,
+}
+
+// The first bound is read, and need not be compared: the search goes on below it.
+pub fn bucket_held(words: &[u32], n: usize, key: u32, start: usize) -> Held
+    requires { ⌜ 4 * n + start < length (now words) ⌝ }
+    requires { ⌜ (1 ≤ start) × (start ≤ 32) ⌝ }
+    requires { ⌜ key ≤ bound (boundsOf n (now words)) start ⌝ }
+    ensures { λ r. ⌜ (r .bound ≡ bound (boundsOf n (now (words .entry))) start)
+        × (r .bucket ≡ bucketFrom (boundsOf n (now (words .entry))) key start)
+        × (r .reads ≡ readsFrom (boundsOf n (now (words .entry))) key start) ⌝ }
+{
+    let bound = bound_of(words, n, start);
+    let below = bucket_of(words, n, key, start - 1);
+    let reads = below.reads + 1;
+    Held {
+        bound,
+        bucket: below.bucket,
+        reads,
+    }
 }
 
 // u(from), .., u(to - 1) are set anew: each is the one before and the bucket's size, but no more than `end`. So each is `before` and the
@@ -135,41 +175,24 @@ pub fn segment_end(
     }
 }
 
-// Whether a key that is no higher than the bound of a bucket is above the bound of the one below.
-fn is_in_bucket(words: &[u32], n: usize, bucket: usize, key: u32) -> bool
-    requires { ⌜ 4 * n + bucket < length (now words) ⌝ }
-    requires { ⌜ 1 ≤ bucket ⌝ }
-    ensures { λ r. ⌜ r ≡ inBucket n (now (words .entry)) bucket key ⌝ }
-{
-    if bucket == 1 {
-        return true;
-    }
-    bound_of(words, n, bucket - 1) < key
-}
-
-// Whether a key below the upper end of a segment is in that segment. This takes no search and no division.
-pub fn is_inside(
-    words: &[u32],
-    n: usize,
+// Whether a key below the upper end of a segment is in that segment, of a bucket with this bound. This takes no division.
+pub fn is_in_segment(
     sizes: &[u32],
     segments: usize,
     buckets: usize,
     bucket: usize,
+    bound: u32,
     segment: usize,
     key: u32,
 ) -> bool
     requires { ⌜ Sized buckets (now sizes) ⌝ }
-    requires { ⌜ (1 ≤ bucket) × (4 * n + bucket < length (now words)) ⌝ }
-    requires { ⌜ (segment ≤ segments) × (key < segmentEnd buckets segments (now sizes) bucket (bound (boundsOf n (now words)) bucket) segment) ⌝ }
-    ensures { λ r. ⌜ r ≡ (inBucket n (now (words .entry)) bucket key && inSegment buckets segments (now (sizes .entry)) (now (words .entry)) n bucket segment key) ⌝ }
+    requires { ⌜ (1 ≤ bucket) × (segment ≤ segments) ⌝ }
+    requires { ⌜ key < segmentEnd buckets segments (now sizes) bucket bound segment ⌝ }
+    ensures { λ r. ⌜ r ≡ inSegment buckets segments (now (sizes .entry)) bucket bound segment key ⌝ }
 {
-    if is_in_bucket(words, n, bucket, key) {
-        if is_segmented(segments, buckets, bucket) {
-            let bound = bound_of(words, n, bucket);
-            let end = segment_end(sizes, segments, buckets, bucket, bound, segment);
-            return end - key < sizes[bucket - 1];
-        }
-        return true;
+    if is_segmented(segments, buckets, bucket) {
+        let end = segment_end(sizes, segments, buckets, bucket, bound, segment);
+        return end - key < sizes[bucket - 1];
     }
-    false
+    true
 }

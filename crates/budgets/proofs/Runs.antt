@@ -15,7 +15,7 @@ use Rattle.theory.specs.Heap.{Heap, placements}
 use Rattle.theory.specs.Demands.{operations, OperationsBounded, BoundedCounts}
 use Rattle.checks.specs.Checks.{firstFault, runChecks}
 use Rattle.runs.specs.Promise.{Lent, lengthsOf, Ran, Promised}
-use Rattle.budgets.specs.Budget.{mostReached, mostDecreases, mostPlacements, mostLooks, mostOperations, operationsOf, Within}
+use Rattle.budgets.specs.Budget.{mostReached, mostDecreases, mostPlacements, mostLooks, mostReads, mostOperations, operationsOf, Within}
 use Rattle.budgets.proofs.Sizing.{one-some, two-some}
 
 some-listed : {v : ℕ} (l : List ℕ) → List·Memᴰ v l → 1 ≤ length l
@@ -27,37 +27,45 @@ buckets-some one C = one-some C
 buckets-some (two K) C = two-some C K
 
 -- A bound for r reached nodes, of which there are at most R, as one for R.
-for-most : (number r R m k : ℕ) → 1 ≤ k → r ≤ R → number + r ≤ r * k + m + 1 → number ≤ R * (k - 1) + m + 1
-for-most number r R m k some few bound =
-    let split : r * k ≡ r * (k - 1) + r = let e : k ≡ k - 1 + 1 = omega arith in ap (λ (j : ℕ). r * j) e ∙ omega arith in
-    let most : r * (k - 1) ≤ R * (k - 1) = mul-le-mul few (le-refl (k - 1)) in
+for-most : (number r R k less rest : ℕ) → less ≤ k → r ≤ R → number + less * r ≤ r * k + rest → number ≤ R * (k - less) + rest
+for-most number r R k less rest some few bound =
+    let split : r * k ≡ r * (k - less) + less * r = let e : k ≡ k - less + less = omega arith in ap (λ (j : ℕ). r * j) e ∙ omega arith in
+    let most : r * (k - less) ≤ R * (k - less) = mul-le-mul few (le-refl (k - less)) in
     omega (arith, bound)
 
 module _ {M : Map} {source B L : ℕ} {h : Heap} (counts : BoundedCounts M source B L h) (some : 1 ≤ B) where
   abbrev r : ℕ
   r = length (h .search .roster)
 
-  reached : r ≤ mostReached (M .nodes) (arcs M)
+  abbrev R : ℕ
+  R = mostReached (M .nodes) (arcs M)
+
+  reached : r ≤ R
   reached = omega (arith, counts .few, counts .decreases)
 
   decreases-within : h .search .decreases ≤ mostDecreases (arcs M)
   decreases-within = omega (arith, counts .decreases, some-listed (h .search .roster) (counts .roster .complete source ([], Route.here)))
 
   placements-within : placements h ≤ mostPlacements (M .nodes) (arcs M) B
-  placements-within = for-most _ r _ _ B some reached (counts .placed)
+  placements-within = omega (arith, for-most (placements h) r R B 1 (arcs M + 1) some reached (omega (arith, counts .placed)))
 
   looks-within : h .looks ≤ mostLooks (M .nodes) (arcs M) L
-  looks-within = let most : r * L ≤ mostReached (M .nodes) (arcs M) * L = mul-le-mul reached (le-refl L) in omega (arith, counts .looked)
+  looks-within = let most : r * L ≤ R * L = mul-le-mul reached (le-refl L) in omega (arith, counts .looked)
+
+  reads-within : h .reads ≤ mostReads (M .nodes) (arcs M) B
+  reads-within = omega (arith, for-most (h .reads) r R B 1 (2 * placements h) some reached (omega (arith, counts .read)), placements-within)
 
   operations-within : operations h ≤ mostOperations (M .nodes) (arcs M) B L
-  operations-within = for-most _ r _ _ (B + L) (omega arith) reached (counts .operated)
+  operations-within =
+      omega (arith, for-most (operations h) r R (4 * B + L) 4 (3 * arcs M + 3) (omega (arith, some)) reached (omega (arith, counts .operated)))
 
--- The most heap operations in document 01's B and K: with R nodes reached at the most, R (2 B - 1) + m + 1 and R (2 B + K - 1) + m + 1.
-pub one-level-most-operations : (n m B : ℕ) → mostOperations n m B B ≡ mostReached n m * (2 * B - 1) + m + 1
-one-level-most-operations n m B = let e : B + B - 1 ≡ 2 * B - 1 = omega arith in ap (λ (k : ℕ). mostReached n m * k + m + 1) e
+-- The most heap operations in document 01's B and K: with R nodes reached at the most, R (5 B - 4) + 3 m + 3 and R (5 B + K - 4) + 3 m + 3.
+pub one-level-most-operations : (n m B : ℕ) → mostOperations n m B B ≡ mostReached n m * (5 * B - 4) + 3 * m + 3
+one-level-most-operations n m B = let e : 4 * B + B - 4 ≡ 5 * B - 4 = omega arith in ap (λ (k : ℕ). mostReached n m * k + 3 * m + 3) e
 
-pub two-level-most-operations : (n m B K : ℕ) → mostOperations n m B (B + K) ≡ mostReached n m * (2 * B + K - 1) + m + 1
-two-level-most-operations n m B K = let e : B + (B + K) - 1 ≡ 2 * B + K - 1 = omega arith in ap (λ (k : ℕ). mostReached n m * k + m + 1) e
+pub two-level-most-operations : (n m B K : ℕ) → mostOperations n m B (B + K) ≡ mostReached n m * (5 * B + K - 4) + 3 * m + 3
+two-level-most-operations n m B K =
+    let e : 4 * B + (B + K) - 4 ≡ 5 * B + K - 4 = omega arith in ap (λ (k : ℕ). mostReached n m * k + 3 * m + 3) e
 
 -- Of a run that has passed its checks.
 module _ (L : Levels) (I : Inputs) (l l′ : Lent) {answer : RunAnswer}
@@ -69,7 +77,7 @@ module _ (L : Levels) (I : Inputs) (l l′ : Lent) {answer : RunAnswer}
   pub operations-given : operationsOf (numbersOf answer .counts) ≡ operations (stepsOf L I)
   operations-given = ap (λ (n : Numbers). operationsOf (n .counts)) (accepted .numbers)
 
-  -- The bound of a run by the nodes that it has reached: r (B + L) + m - r + 1.
+  -- The bound of a run by the nodes that it has reached: r (4 B + L) + 3 m - 4 r + 3.
   pub run-operations : OperationsBounded (operationsOf (numbersOf answer .counts)) (numbersOf answer .reached) (arcs (I .map))
       (heapBuckets L (I .ceiling)) (removalLooks L (I .ceiling))
   run-operations = rw (accepted .numbers) (accepted .demanded .counts .operated)
@@ -84,5 +92,6 @@ module _ (L : Levels) (I : Inputs) (l l′ : Lent) {answer : RunAnswer}
         decreases = omega (arith, ap (λ (n : Numbers). n .counts .decreases) told, decreases-within counts some);
         placements = omega (arith, ap (λ (n : Numbers). n .counts .placements) told, placements-within counts some);
         looks = omega (arith, ap (λ (n : Numbers). n .counts .looks) told, looks-within counts some);
+        reads = omega (arith, ap (λ (n : Numbers). n .counts .reads) told, reads-within counts some);
         operations = omega (arith, operations-given, operations-within counts some);
       }

@@ -79,28 +79,36 @@ placements-fit {r} {B} {m} S = let most : r * (B - 1) ≤ 4096 * 21 = let less :
 pub looks-fit : {r L : ℕ} → r ≤ 4096 → L ≤ 128 → r * L ≤ 1048576
 looks-fit {r} {L} a b = let most : r * L ≤ 4096 * 128 = mul-le-mul a b in omega arith
 
-pub operations-fit : {r B L m : ℕ} → Small r B m → L ≤ 128 → r * (B + L - 1) + m + 1 ≤ 1048576
+pub reads-fit : {r B m p : ℕ} → Small r B m → p ≡ r * (B - 1) + m + 1 → r * (B - 1) + 2 * p ≤ 389122
+reads-fit {r} {B} {m} {p} S e =
+    let less : B - 1 ≤ 21 = omega (arith, S .few) in
+    let most : r * (B - 1) ≤ 4096 * 21 = mul-le-mul (S .few-nodes) less in
+    omega (arith, e, S .few-arcs)
+
+pub operations-fit : {r B L m : ℕ} → Small r B m → L ≤ 128 → r * (4 * B + L - 4) + 3 * m + 3 ≤ 2097152
 operations-fit {r} {B} {L} {m} S b =
-    let less : B + L - 1 ≤ 149 = omega (arith, S .few) in
-    let most : r * (B + L - 1) ≤ 4096 * 149 = mul-le-mul (S .few-nodes) less in
+    let less : 4 * B + L - 4 ≤ 212 = omega (arith, S .few) in
+    let most : r * (4 * B + L - 4) ≤ 4096 * 212 = mul-le-mul (S .few-nodes) less in
     omega (arith, S .few-arcs)
 
 -- ---- the text
 
-pub bounds-whole : (word : List ℕ) (buckets decreases placements looks operations : ℕ)
+pub bounds-whole : (word : List ℕ) (buckets decreases placements looks reads operations : ℕ)
     → ended word comma ++ ended (decimal buckets) comma ++ ended (decimal decreases) comma ++ ended (decimal placements) comma
-    ++ renderLine comma (looks ∷ operations ∷ [])
-    ≡ boundsLine word buckets decreases placements looks operations
+    ++ ended (decimal looks) comma ++ renderLine comma (reads ∷ operations ∷ [])
+    ≡ boundsLine word buckets decreases placements looks reads operations
 unfolding renderFields boundsLine
-bounds-whole word buckets decreases placements looks operations = simp append-assoc
+bounds-whole word buckets decreases placements looks reads operations = simp append-assoc
 
-bounds-most : (word : List ℕ) (buckets decreases placements looks operations : ℕ)
-    → length (boundsLine word buckets decreases placements looks operations) ≤ length word + 106
-bounds-most word buckets decreases placements looks operations = omega (
+bounds-most : (word : List ℕ) (buckets decreases placements looks reads operations : ℕ)
+    → length (boundsLine word buckets decreases placements looks reads operations) ≤ length word + 127
+bounds-most word buckets decreases placements looks reads operations = omega (
   arith,
-  ap length (bounds-whole word buckets decreases placements looks operations),
+  ap length (bounds-whole word buckets decreases placements looks reads operations),
+  length-append (ended word comma ++ ended (decimal buckets) comma ++ ended (decimal decreases) comma ++ ended (decimal placements) comma
+      ++ ended (decimal looks) comma) (renderLine comma (reads ∷ operations ∷ [])),
   length-append (ended word comma ++ ended (decimal buckets) comma ++ ended (decimal decreases) comma ++ ended (decimal placements) comma)
-      (renderLine comma (looks ∷ operations ∷ [])),
+      (ended (decimal looks) comma),
   length-append (ended word comma ++ ended (decimal buckets) comma ++ ended (decimal decreases) comma) (ended (decimal placements) comma),
   length-append (ended word comma ++ ended (decimal buckets) comma) (ended (decimal decreases) comma),
   length-append (ended word comma) (ended (decimal buckets) comma),
@@ -108,18 +116,20 @@ bounds-most word buckets decreases placements looks operations = omega (
   field-most buckets comma,
   field-most decreases comma,
   field-most placements comma,
-  two-most looks operations,
+  field-most looks comma,
+  two-most reads operations,
 )
 
-pub heap-whole : (word : List ℕ) (n m B L : ℕ) {r placements looks operations : ℕ} → r ≡ mostReached n m
-    → placements ≡ r * (B - 1) + m + 1 → looks ≡ r * L → operations ≡ r * (B + L - 1) + m + 1
-    → boundsLine word B m placements looks operations ≡ heapBounds word n m B L
+pub heap-whole : (word : List ℕ) (n m B L : ℕ) {r placements looks reads operations : ℕ} → r ≡ mostReached n m
+    → placements ≡ r * (B - 1) + m + 1 → looks ≡ r * L → reads ≡ r * (B - 1) + 2 * placements
+    → operations ≡ r * (4 * B + L - 4) + 3 * m + 3
+    → boundsLine word B m placements looks reads operations ≡ heapBounds word n m B L
 unfolding heapBounds
-heap-whole word n m B L r p l o = rw (p, l, o, r) refl
+heap-whole word n m B L r p l b o = rw (b, p, l, o, r) refl
 
-pub heap-most : (word : List ℕ) (n m B L : ℕ) → length (heapBounds word n m B L) ≤ length word + 106
+pub heap-most : (word : List ℕ) (n m B L : ℕ) → length (heapBounds word n m B L) ≤ length word + 127
 unfolding heapBounds
-heap-most word n m B L = bounds-most word B _ _ _ _
+heap-most word n m B L = bounds-most word B _ _ _ _ _
 
 pub size-whole : (n m C K : ℕ) {one two : ℕ} → one ≡ oneLevelBuckets C → two ≡ twoLevelBuckets C K
     → heapBounds wordOne n m one one ++ heapBounds wordTwo n m two (two + K) ≡ sizeText n m C K

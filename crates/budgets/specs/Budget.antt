@@ -32,20 +32,27 @@ mostPlacements n m B = mostReached n m * (B - 1) + m + 1
 abbrev pub mostLooks : (n m L : ℕ) → ℕ
 mostLooks n m L = mostReached n m * L
 
--- The most heap operations: r × (B + L) + m - r + 1 for the most nodes (demand 3).
+-- The most reads: r × (B - 1) and twice the placements, for the most nodes and the most placements (demand 3; document 02, paper 3).
+abbrev pub mostReads : (n m B : ℕ) → ℕ
+mostReads n m B = mostReached n m * (B - 1) + 2 * mostPlacements n m B
+
+-- The most heap operations: r × (4 B + L) + 3 m - 4 r + 3 for the most nodes (demand 3; document 02, paper 3).
 abbrev pub mostOperations : (n m B L : ℕ) → ℕ
-mostOperations n m B L = mostReached n m * (B + L - 1) + m + 1
+mostOperations n m B L = mostReached n m * (4 * B + L - 4) + 3 * m + 3
 
--- The heap operations of the counts that a run gives back (demand 3; document 01, "The tallies").
+-- The heap operations of the counts that a run gives back: placements, looks and reads (demand 3; document 01, "The tallies"; document
+-- 02, paper 3).
 abbrev pub operationsOf : Counts → ℕ
-operationsOf counts = counts .placements + counts .looks
+operationsOf counts = counts .placements + counts .looks + counts .reads
 
--- A run has returned no more than the bounds of its size, for a heap of B buckets in which a removal makes at most L looks (demand 3).
+-- A run has returned no more than the bounds of its size, for a heap of B buckets in which a removal makes at most L looks (demand 3;
+-- document 02, paper 3).
 pub record Within (n m B L : ℕ) (numbers : answers.Numbers) : Type 0 where
   pub buckets : numbers .buckets ≡ B
   pub decreases : numbers .counts .decreases ≤ mostDecreases m
   pub placements : numbers .counts .placements ≤ mostPlacements n m B
   pub looks : numbers .counts .looks ≤ mostLooks n m L
+  pub reads : numbers .counts .reads ≤ mostReads n m B
   pub operations : operationsOf (numbers .counts) ≤ mostOperations n m B L
 
 -- Numbers so small that the bounds fit a word of 32 bits.
@@ -85,14 +92,15 @@ budgetCheck bytes = lineCheck (line comma 4 bytes) bytes
 
 -- ---- the text
 
--- The line of a heap: its word, B, and the most decreases, placements, looks and operations.
-unfoldable pub boundsLine : (word : List ℕ) → (buckets decreases placements looks operations : ℕ) → List ℕ
-boundsLine word buckets decreases placements looks operations =
-    ended word comma ++ renderLine comma (buckets ∷ decreases ∷ placements ∷ looks ∷ operations ∷ [])
+-- The line of a heap: its word, B, and the most decreases, placements, looks, reads and operations (document 02, paper 3).
+unfoldable pub boundsLine : (word : List ℕ) → (buckets decreases placements looks reads operations : ℕ) → List ℕ
+boundsLine word buckets decreases placements looks reads operations =
+    ended word comma ++ renderLine comma (buckets ∷ decreases ∷ placements ∷ looks ∷ reads ∷ operations ∷ [])
 
 -- The line of a heap of B buckets in which a removal makes at most L looks, for n nodes and m arcs.
 unfoldable pub heapBounds : (word : List ℕ) → (n m B L : ℕ) → List ℕ
-heapBounds word n m B L = boundsLine word B (mostDecreases m) (mostPlacements n m B) (mostLooks n m L) (mostOperations n m B L)
+heapBounds word n m B L =
+    boundsLine word B (mostDecreases m) (mostPlacements n m B) (mostLooks n m L) (mostReads n m B) (mostOperations n m B L)
 
 -- The line of a kind of heap for a size.
 abbrev pub levelsBounds : (word : List ℕ) → Levels → (n m C : ℕ) → List ℕ

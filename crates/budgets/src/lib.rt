@@ -33,12 +33,19 @@ fn most_looks(reached: u32, looks: u32) -> u32
     reached * looks
 }
 
-// Placements and looks together: the one number of a heap.
+fn most_reads(reached: u32, buckets: u32, arcs: u32, placements: u32) -> u32
+    requires { ⌜ Small reached buckets arcs × (placements ≡ reached * (buckets - 1) + arcs + 1) ⌝ }
+    ensures { λ r. ⌜ r ≡ reached * (buckets - 1) + 2 * placements ⌝ }
+{
+    reached * (buckets - 1) + 2 * placements
+}
+
+// Placements, looks and reads together: the one number of a heap.
 fn most_operations(reached: u32, buckets: u32, looks: u32, arcs: u32) -> u32
     requires { ⌜ Small reached buckets arcs × (looks ≤ 128) ⌝ }
-    ensures { λ r. ⌜ r ≡ reached * (buckets + looks - 1) + arcs + 1 ⌝ }
+    ensures { λ r. ⌜ r ≡ reached * (4 * buckets + looks - 4) + 3 * arcs + 3 ⌝ }
 {
-    reached * (buckets + looks - 1) + arcs + 1
+    reached * (4 * buckets + looks - 4) + 3 * arcs + 3
 }
 
 // The line of a heap from its fields.
@@ -50,17 +57,19 @@ fn write_bounds(
     decreases: u32,
     placements: u32,
     looks: u32,
+    reads: u32,
     operations: u32,
 ) -> usize
-    requires { ⌜ at + length (now word) + 106 ≤ length (now output) ⌝ }
-    ensures { λ r. ⌜ Writes at (boundsLine (now (word .entry)) buckets decreases placements looks operations)
+    requires { ⌜ at + length (now word) + 127 ≤ length (now output) ⌝ }
+    ensures { λ r. ⌜ Writes at (boundsLine (now (word .entry)) buckets decreases placements looks reads operations)
         (now (output .entry)) (now (output .exit)) r ⌝ }
 {
     let second = report::put_word(output, at, word);
     let third = fields::writing::put_field(output, second, buckets as u64, b',');
     let fourth = fields::writing::put_field(output, third, decreases as u64, b',');
     let fifth = fields::writing::put_field(output, fourth, placements as u64, b',');
-    report::put_two(output, fifth, looks as u64, operations as u64)
+    let sixth = fields::writing::put_field(output, fifth, looks as u64, b',');
+    report::put_two(output, sixth, reads as u64, operations as u64)
 }
 
 // The line of a heap in which a removal makes at most so many looks.
@@ -74,12 +83,13 @@ fn write_heap(
     looks: u32,
 ) -> usize
     requires { ⌜ Small (mostReached nodes arcs) buckets arcs × (looks ≤ 128) ⌝ }
-    requires { ⌜ at + length (now word) + 106 ≤ length (now output) ⌝ }
+    requires { ⌜ at + length (now word) + 127 ≤ length (now output) ⌝ }
     ensures { λ r. ⌜ Writes at (heapBounds (now (word .entry)) nodes arcs buckets looks) (now (output .entry)) (now (output .exit)) r ⌝ }
 {
     let reached = most_reached(nodes, arcs);
     let placements = most_placements(reached, buckets, arcs);
     let looked = most_looks(reached, looks);
+    let reads = most_reads(reached, buckets, arcs, placements);
     let operations = most_operations(reached, buckets, looks, arcs);
     write_bounds(
         output,
@@ -89,6 +99,7 @@ fn write_heap(
         arcs,
         placements,
         looked,
+        reads,
         operations,
     )
 }
@@ -96,7 +107,7 @@ fn write_heap(
 // The bounds of both heaps for a size that has passed its checks.
 fn write_size(output: &mut [u8], nodes: u32, arcs: u32, ceiling: u32, segments: u32) -> usize
     requires { ⌜ firstFault (budgetChecks nodes arcs ceiling segments) ≡ Passed ⌝ }
-    requires { ⌜ 256 ≤ length (now output) ⌝ }
+    requires { ⌜ 320 ≤ length (now output) ⌝ }
     ensures { λ r. ⌜ Writes 0 (sizeText nodes arcs ceiling segments) (now (output .entry)) (now (output .exit)) r ⌝ }
 {
     let one = sizes::one_level_buckets(ceiling);
@@ -133,7 +144,7 @@ fn left_check(left: usize) -> Check
 
 // The output as a slice.
 fn answer_in(bytes: &[u8], output: &mut [u8]) -> usize
-    requires { ⌜ 256 ≤ length (now output) ⌝ }
+    requires { ⌜ 320 ≤ length (now output) ⌝ }
     ensures { λ r. ⌜ Writes 0 (budgetText (now (bytes .entry))) (now (output .entry)) (now (output .exit)) r ⌝ }
 {
     let mut size = [0u32; 4];
@@ -148,7 +159,7 @@ fn answer_in(bytes: &[u8], output: &mut [u8]) -> usize
 }
 
 // What `budget` prints for its input: it is written to the front of the output, and its length is given back.
-pub fn answer(bytes: &[u8], output: &mut [u8; 256]) -> usize
+pub fn answer(bytes: &[u8], output: &mut [u8; 320]) -> usize
     ensures { λ r. ⌜ Writes 0 (budgetText (now (bytes .entry))) (now (output .entry)) (now (output .exit)) r ⌝ }
 {
     answer_in(bytes, output)

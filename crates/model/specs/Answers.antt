@@ -24,7 +24,7 @@ acceptedNumbers reached buckets counts = record { returned = 0; place = 0; reach
 
 -- No count (document 01, "What a call returns": all other numbers of a refusal are 0).
 abbrev pub noCounts : Counts
-noCounts = record { decreases = 0; placements = 0; looks = 0 }
+noCounts = record { decreases = 0; placements = 0; looks = 0; reads = 0 }
 
 -- All other numbers of a refusal are 0 (document 01, "What a call returns").
 abbrev pub refusedNumbers : (number place : ℕ) → Numbers

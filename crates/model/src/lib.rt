@@ -19,6 +19,7 @@ pub struct Counts {
     pub decreases: u32,
     pub placements: u32,
     pub looks: u32,
+    pub reads: u32,
 }
 
 // What a run gives back.

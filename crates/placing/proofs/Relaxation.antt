@@ -11,16 +11,16 @@ use Rattle.theory.specs.Maps.{none}
 use Rattle.theory.specs.Network.{Link, Network}
 use Rattle.theory.specs.Search.{Mark, unlabelled, labelled, scanned, mark, distance, below, improves}
 use Rattle.theory.specs.Heap.{Heap, heapLabel, heapRelax}
-use Rattle.theory.proofs.Sums.{sum-mono, sum-ones}
-use Rattle.theory.proofs.Search.Invariant.{known-low, sums-finite}
-use Rattle.theory.specs.Invariants.{Scanning, known, linksOf}
+use Rattle.theory.proofs.Search.Invariant.{sums-finite}
+use Rattle.theory.specs.Invariants.{Scanning}
 use Rattle.theory.proofs.Search.Relaxing.{head-node, sum-few}
 use Rattle.theory.proofs.Heap.Run.{improving}
-use Rattle.theory.proofs.Search.Counts.{linksOf-le}
+use Rattle.theory.proofs.Search.Counts.{updates-few}
+use Rattle.theory.proofs.Heap.Count.{reads-low}
 use Rattle.state.specs.declared.Layout.{Layout}
 use Rattle.state.specs.declared.State.{State}
 use Rattle.state.specs.Stands.{Setting, Lists}
-use Rattle.state.proofs.Tallies.{same-insertions, same-decreases}
+use Rattle.state.proofs.Tallies.{same-insertions, same-decreases, same-reads}
 use Rattle.theory.proofs.Lists.{getD-inside}
 use Rattle.placing.specs.Placing.{Labels, Relaxes}
 
@@ -57,11 +57,10 @@ module _ {layout : Layout} {sizes : List ℕ} {X : Setting layout sizes} {before
   improved less = improves-read ∙ lt-ltb (s .front + l .cost) (distance (h .search) (l .head)) (omega (arith, distance-read))
 
   counts : (h .search .insertions ≤ 4096) × (h .search .decreases ≤ 65537)
-  counts =
-      let i = scanning .inv .insertions-count in
-      let a = sum-mono (N .nodes) (λ v. known (mark (h .search) v)) (λ v. 1) (λ v _. known-low (mark (h .search) v)) in
-      let b = sum-mono (N .nodes) (λ v. linksOf N v (mark (h .search) v)) (λ v. length (N .out v)) (λ v _. linksOf-le N v (mark (h .search) v)) in
-      (omega (arith, sum-ones (N .nodes), X .admissible .few-nodes), omega (arith, scanning .inv .updates-count, X .admissible .links, X .admissible .few-arcs))
+  counts = updates-few (X .admissible) (scanning .inv)
+
+  reads-few : h .reads ≤ 524288
+  reads-few = reads-low (R .relaxing .counted) (omega (arith, X .agrees .buckets, X .agrees .sized .few)) counts
 
   pub relax-labels : s .front + l .cost < getD (lists .distances) (l .head) 0 → Labels X before h lists s (l .head) (s .front + l .cost)
   relax-labels less = record {
@@ -72,6 +71,7 @@ module _ {layout : Layout} {sizes : List ℕ} {X : Setting layout sizes} {before
     parents-long = ap length (R .stands .parents) ∙ scanning .inv .parents-length ∙ X .nodes;
     insertions-few = omega (arith, same-insertions (R .stands .tally), counts .0);
     decreases-few = omega (arith, same-decreases (R .stands .tally), counts .1);
+    reads-few = omega (arith, same-reads (R .stands .tally), reads-few);
   }
 
   pub relaxed-label : s .front + l .cost < getD (lists .distances) (l .head) 0 → heapLabel (X .shape) (l .head) (s .front + l .cost) (l .arc) h ≡ heapRelax (X .shape) (s .front) l h

@@ -1,4 +1,5 @@
 // Placements of nodes: insertions and decreases, and the relaxation of an arc that makes them (document 01, "The search" and "The tallies").
+use bounds::Held;
 use model::Arc;
 use model::Node;
 use state::Layout;
@@ -7,15 +8,15 @@ ghost use mathlib.Core.Path.{_≡_};
 ghost use mathlib.Core.Bool.{true};
 ghost use mathlib.Core.List.{List};
 ghost use Prim.Native.Nat.{ℕ};
-ghost use Rattle.bounds.specs.Words.{boundsOf};
-ghost use Rattle.buckets.specs.Words.{placeBucket};
+ghost use lib.ListN.{getD};
+ghost use Rattle.buckets.specs.Words.{places};
 ghost use Rattle.theory.specs.Network.{Link};
 ghost use Rattle.theory.specs.Heap.{Heap, heapLabel, heapRelax};
-ghost use Rattle.state.specs.Slots.{keyWord};
 ghost use Rattle.state.specs.Stands.{Setting, Stands};
-ghost use Rattle.placing.specs.Placing.{Entering, Entered, Standing, lists, link, Labels, SomeLabels, Relaxes, SomeRelaxes};
+ghost use Rattle.placing.specs.Placing.{Entering, Entered, Standing, Stays, lists, link, Labels, SomeLabels, Relaxes, SomeRelaxes};
 
-// Node v, unlabelled in the words, is put where its key belongs, searched for from bucket `start` down; 1 if that is at the current key.
+// Node v, unlabelled in the words, is put where its key belongs, in the bucket that the search for it has found; 1 if that is at the
+// current key.
 pub fn enter(
     words: &mut [u32],
     sizes: &[u32],
@@ -23,10 +24,10 @@ pub fn enter(
     front: u32,
     v: Node,
     key: u32,
-    start: usize,
+    bucket: usize,
 ) -> u32
-    requires { ⌜ Entering layout (now sizes) (now words) front (v .0) key start ⌝ }
-    ensures { λ r. ⌜ Entered layout (now (sizes .entry)) (now (words .entry)) (now (words .exit)) front (v .0) key start r ⌝ }
+    requires { ⌜ Entering layout (now sizes) (now words) front (v .0) key bucket ⌝ }
+    ensures { λ r. ⌜ Entered layout (now (sizes .entry)) (now (words .entry)) (now (words .exit)) front (v .0) key bucket r ⌝ }
 {
     let n = layout.nodes;
     let slots = layout.slots;
@@ -35,7 +36,6 @@ pub fn enter(
         frontier::enter_current(words, n, slots, segments, v);
         return 1;
     }
-    let bucket = bounds::bucket_of(words, n, key, start);
     let bound = bounds::bound_of(words, n, bucket);
     let segment = bounds::segment_of(sizes, segments, layout.buckets, bucket, bound, key);
     let slot = (bucket - 1) * segments + (segment - 1);
@@ -43,28 +43,64 @@ pub fn enter(
     0
 }
 
-// Whether a key, below that of a node in a list, has the same place word: the node then stays where it is, and nothing is moved.
-fn stays(words: &[u32], sizes: &[u32], layout: Layout, front: u32, place: u32, key: u32) -> bool
-    requires { ⌜ Standing layout (now sizes) (now words) place key ⌝ }
-    ensures { λ r. ⌜ (r ≡ true → keyWord (layout .buckets) (layout .segments) (now (sizes .entry)) (boundsOf (layout .nodes) (now (words .entry))) front key (placeBucket place) ≡ place) ⌝ }
+// Whether a key, below that of a node in a list, has the same place word, by the bucket that its search has found: the node then stays where
+// it is, and nothing is moved.
+fn stays(sizes: &[u32], layout: Layout, front: u32, place: u32, key: u32, held: Held) -> bool
+    requires { ⌜ Standing layout (now sizes) (held .bound) place key ⌝ }
+    ensures { λ r. ⌜ (r ≡ true → Stays layout (now (sizes .entry)) front place key (held .bound) (held .bucket)) ⌝ }
 {
-    if front == key {
+    if key == front {
+        return false;
+    }
+    let bucket = frontier::place_bucket(place);
+    if held.bucket != bucket {
         return false;
     }
     let segments = layout.segments;
-    let bucket = frontier::place_bucket(place);
     let slot = frontier::place_slot(place);
     let segment = slot - (bucket - 1) * segments + 1;
-    bounds::is_inside(
-        words,
-        layout.nodes,
+    bounds::is_in_segment(
         sizes,
         segments,
         layout.buckets,
         bucket,
+        held.bound,
         segment,
         key,
     )
+}
+
+// Node v, unlabelled in the words, gets the distance `sum` by this arc: it is inserted.
+pub fn insert(
+    words: &mut [u32],
+    distances: &mut [u32],
+    parents: &mut [u32],
+    sizes: &[u32],
+    layout: Layout,
+    state: State,
+    v: Node,
+    arc: Arc,
+    sum: u32,
+) -> State
+    requires { ⌜ SomeLabels layout (now sizes) (now words) (now distances) (now parents) state (v .0) sum ⌝ }
+    requires { ⌜ getD (places (layout .nodes) (now words)) (v .0) 0 ≡ 0 ⌝ }
+    ensures { λ r. ⌜ ((X : Setting layout (now (sizes .entry))) (before roster : List ℕ) (h : Heap)
+        → Labels X before h (lists (now (words .entry)) (now (distances .entry)) (now (parents .entry)) roster) state (v .0) sum
+        → Stands layout (X .shape) before (heapLabel (X .shape) (v .0) sum (arc .0) h) (lists (now (words .exit)) (now (distances .exit)) (now (parents .exit)) roster) r) ⌝ }
+    ensures front { λ r. ⌜ r .front ≡ state .front ⌝ }
+{
+    let n = layout.nodes;
+    let at = v.0 as usize;
+    distances[at] = sum;
+    parents[at] = arc.0;
+    let found = bounds::bucket_of(words, n, sum, layout.buckets);
+    let current = enter(words, sizes, layout, state.front, v, sum, found.bucket);
+    State {
+        front: state.front,
+        current: state.current + current,
+        reached: state.reached,
+        tally: state.tally.inserted().read(found.reads),
+    }
 }
 
 // The distance of v falls to `sum`, by this arc: v is inserted or decreased.
@@ -86,21 +122,18 @@ pub fn label(
     ensures front { λ r. ⌜ r .front ≡ state .front ⌝ }
 {
     let n = layout.nodes;
+    let place = frontier::place_of(words, n, v);
+    if frontier::is_unlabelled(place) {
+        return insert(words, distances, parents, sizes, layout, state, v, arc, sum);
+    }
     let at = v.0 as usize;
     distances[at] = sum;
     parents[at] = arc.0;
-    let place = frontier::place_of(words, n, v);
-    if frontier::is_unlabelled(place) {
-        let current = enter(words, sizes, layout, state.front, v, sum, layout.buckets);
-        return State {
-            front: state.front,
-            current: state.current + current,
-            reached: state.reached,
-            tally: state.tally.inserted(),
-        };
-    }
-    let tally = state.tally.decreased();
-    if stays(words, sizes, layout, state.front, place, sum) {
+    let start = frontier::place_bucket(place);
+    let held = bounds::bucket_held(words, n, sum, start);
+    let decreased = state.tally.decreased();
+    let tally = decreased.read(held.reads);
+    if stays(sizes, layout, state.front, place, sum, held) {
         return State {
             front: state.front,
             current: state.current,
@@ -109,8 +142,7 @@ pub fn label(
         };
     }
     frontier::leave_slot(words, n, layout.slots, layout.segments, v);
-    let start = frontier::place_bucket(place);
-    let current = enter(words, sizes, layout, state.front, v, sum, start);
+    let current = enter(words, sizes, layout, state.front, v, sum, held.bucket);
     State {
         front: state.front,
         current: state.current + current,

@@ -6,7 +6,7 @@ use lib.ListN.{replicate}
 use Rattle.theory.specs.Network.{linksFrom, tailHold, network}
 use Rattle.theory.specs.Search.{label, remove, blank}
 use Rattle.theory.specs.Shape.{logFrom, ceilLog, oneLevelBuckets, twoLevelBuckets, oneLevel, twoLevel}
-use Rattle.theory.specs.Heap.{bucketFrom, heapLabel, heapRelax, heapRelaxAll, pick, rebound, boundsAfter, move, heapRemove, heapScan, heapFrom, boundsFrom, firstBounds, heapBlank, heapStart, heap}
+use Rattle.theory.specs.Heap.{bucketFrom, readsFrom, heapLabel, heapRelax, heapRelaxAll, pick, rebound, boundsAfter, move, heapRemove, heapScan, heapFrom, boundsFrom, firstBounds, heapBlank, heapStart, heap}
 use Rattle.theory.specs.Runs.{inputs, stepsOf}
 use Rattle.theory.specs.Edges.{Row, answerTo, edges}
 use Rattle.theory.proofs.Edges.{edges-hold}
@@ -46,7 +46,7 @@ numbers-hold = rows-given edges ∙ ap (map answer) edges-hold ∙ sym (rows-sai
 -- ---- the files
 
 files-hold : map givenFor files ≡ map said files
-unfolding givenFor said files stepsOf network linksFrom tailHold label remove blank logFrom ceilLog oneLevelBuckets twoLevelBuckets oneLevel twoLevel bucketFrom heapLabel heapRelax heapRelaxAll pick rebound boundsAfter move heapRemove heapScan heapFrom boundsFrom firstBounds heapBlank heapStart heap planText planningCheck bytesOf faultIf firstFault lentChecks digits numberFrom isField field fields decimalBy renderFields lineNumbers arcLine holdLine headerLine linesTaken linesArcs linesHolds arcChecks arcsCheck holdLinesCheck leastFault sumsCheck behindChecks linesChecks headerChecks planCheck keysBelow having groupsFrom startsFrom refusedText countsLine heapLine orNone nodeLine nodeLines acceptedText
+unfolding givenFor said files stepsOf network linksFrom tailHold label remove blank logFrom ceilLog oneLevelBuckets twoLevelBuckets oneLevel twoLevel bucketFrom readsFrom heapLabel heapRelax heapRelaxAll pick rebound boundsAfter move heapRemove heapScan heapFrom boundsFrom firstBounds heapBlank heapStart heap planText planningCheck bytesOf faultIf firstFault lentChecks digits numberFrom isField field fields decimalBy renderFields lineNumbers arcLine holdLine headerLine linesTaken linesArcs linesHolds arcChecks arcsCheck holdLinesCheck leastFault sumsCheck behindChecks linesChecks headerChecks planCheck keysBelow having groupsFrom startsFrom refusedText countsLine heapLine orNone nodeLine nodeLines acceptedText
 files-hold = refl
 
 -- ---- the table

@@ -44,14 +44,14 @@ abbrev pub planTwoLevel : Plan → Heap
 planTwoLevel plan = stepsOf (two (plan .header .segments)) (planRun plan)
 
 -- The answer's text for m arcs and K, of the steps of both heaps over what the runs are given. Decreases, distances and parents are equal
--- for both, and the one-level heap's are told (document 01, "Planning file").
+-- for both, and the one-level heap's are told (document 01, "Planning file"; document 02, paper 3).
 abbrev pub heapsText : (m K : ℕ) → Inputs → List ℕ
 heapsText m K I =
     let first = stepsOf one I in
     let second = stepsOf (two K) I in
     acceptedText (I .map .nodes) m (length (first .search .roster)) (first .search .decreases)
-    (heapBuckets one (I .ceiling)) (placements first) (first .looks)
-    (heapBuckets (two K) (I .ceiling)) (placements second) (second .looks)
+    (heapBuckets one (I .ceiling)) (placements first) (first .looks) (first .reads)
+    (heapBuckets (two K) (I .ceiling)) (placements second) (second .looks) (second .reads)
     (first .search .distances) (first .search .parents)
 
 -- The text for a file that tells `plan` and whose checks come to `check` (document 01, "Planning file").
@@ -135,14 +135,15 @@ told run = record {
   counts = run .counts;
 }
 
--- The text of what two runs have returned. Runs of a map that has been read refuse nothing (document 01, "Planning file").
+-- The text of what two runs have returned. Runs of a map that has been read refuse nothing (document 01, "Planning file"; document 02,
+-- paper 3).
 unfoldable pub runsText : (nodes arcs : ℕ) → (first second : Numbers) → (distances parents : List ℕ) → List ℕ
 runsText nodes arcs first second distances parents =
     cond (eqb (first .returned) 0)
     (cond (eqb (second .returned) 0)
     (acceptedText nodes arcs (first .reached) (first .counts .decreases)
-    (first .buckets) (first .counts .placements) (first .counts .looks)
-    (second .buckets) (second .counts .placements) (second .counts .looks) distances parents)
+    (first .buckets) (first .counts .placements) (first .counts .looks) (first .counts .reads)
+    (second .buckets) (second .counts .placements) (second .counts .looks) (second .counts .reads) distances parents)
     (refusedText (second .returned) (second .place)))
     (refusedText (first .returned) (first .place))
 

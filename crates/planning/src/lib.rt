@@ -50,6 +50,7 @@ fn numbers_of(answer: RunAnswer) -> RunNumbers
                 decreases: 0,
                 placements: 0,
                 looks: 0,
+                reads: 0,
             },
         },
     }
@@ -80,11 +81,13 @@ fn write_runs(
         buckets: one.buckets,
         placements: one.counts.placements,
         looks: one.counts.looks,
+        reads: one.counts.reads,
     };
     let second = HeapNumbers {
         buckets: two.buckets,
         placements: two.counts.placements,
         looks: two.counts.looks,
+        reads: two.counts.reads,
     };
     report::write_answer(
         output,

@@ -7,16 +7,15 @@ use mathlib.Core.Logic.{inl, inr}
 use mathlib.Core.List.{List}
 use borrow.Author.Tests.{lt-ltb, le-ltb}
 use lib.ListN.{length, drop, length-append, length-drop}
-use Rattle.theory.specs.Search.{mark}
 use Rattle.theory.specs.Heap.{Heap}
 use Rattle.theory.proofs.Cases.{split}
-use Rattle.theory.proofs.Sums.{sum-mono, sum-ones}
-use Rattle.theory.proofs.Search.Invariant.{known-low, scans-fewer}
-use Rattle.theory.specs.Invariants.{known}
+use Rattle.theory.proofs.Search.Invariant.{scans-fewer}
+use Rattle.theory.proofs.Search.Counts.{updates-few}
+use Rattle.theory.proofs.Heap.Count.{shifts-low, reads-low}
 use Rattle.state.specs.declared.Layout.{Layout}
 use Rattle.state.specs.declared.State.{State}
 use Rattle.state.specs.Stands.{Setting, Lists}
-use Rattle.state.proofs.Tallies.{same-shifts, same-looks}
+use Rattle.state.proofs.Tallies.{same-shifts, same-looks, same-reads}
 use Rattle.bounds.specs.Words.{segmentLooks}
 use Rattle.finding.specs.Finding.{looksOf}
 use Rattle.removal.specs.Removing.{Rests}
@@ -26,9 +25,6 @@ unfolding segmentLooks
 looks-most K j k = elim (split 1 K) [ inl l ↦ rw (lt-ltb 1 K l) (omega arith) | inr l ↦ rw (le-ltb 1 K l) (omega arith) ]
 
 module _ {layout : Layout} {sizes : List ℕ} {X : Setting layout sizes} {before : List ℕ} {h : Heap} {l : Lists} {s : State} (R : Rests X before h l s) where
-  abbrev n : ℕ
-  n = X .network .nodes
-
   pub reached-low : s .reached < layout .nodes
   reached-low = omega (arith, R .stands .reached, scans-fewer (R .resting .rest) (R .node) (R .labelled), X .nodes)
 
@@ -42,19 +38,18 @@ module _ {layout : Layout} {sizes : List ℕ} {X : Setting layout sizes} {before
   pub nodes-few : layout .nodes ≤ 4096
   nodes-few = R .stands .frontier .few
 
-  insertions-few : h .search .insertions ≤ 4096
-  insertions-few =
-      let i = R .resting .rest .insertions-count in
-      omega (arith, sum-mono n (λ v. known (mark (h .search) v)) (λ v. 1) (λ v _. known-low (mark (h .search) v)), sum-ones n, X .admissible .few-nodes)
+  buckets-few : X .shape .buckets ≤ 22
+  buckets-few = omega (arith, X .agrees .buckets, X .agrees .sized .few)
 
   pub shifts-few : s .tally .shifts ≤ 90112
-  shifts-few =
-      let b : h .search .insertions * X .shape .buckets ≤ h .search .insertions * 22 = mul-le-mul-left (h .search .insertions) (omega (arith, X .agrees .buckets, X .agrees .sized .few)) in
-      omega (arith, same-shifts (R .stands .tally), R .resting .counted .shifts, insertions-few)
+  shifts-few = omega (arith, same-shifts (R .stands .tally), shifts-low (R .resting .counted) buckets-few (updates-few (X .admissible) (R .resting .rest)))
+
+  pub reads-few : s .tally .reads ≤ 524288
+  reads-few = omega (arith, same-reads (R .stands .tally), reads-low (R .resting .counted) buckets-few (updates-few (X .admissible) (R .resting .rest)))
 
   pub looks-few : s .tally .looks ≤ 352256
   looks-few =
       let r : length (h .search .roster) ≤ 4096 = omega (arith, R .stands .reached, reached-low, nodes-few) in
       let b : length (h .search .roster) * (X .shape .buckets + X .segment-looks) ≤ length (h .search .roster) * 86 =
-      mul-le-mul-left (length (h .search .roster)) (omega (arith, X .agrees .buckets, X .agrees .sized .few, X .few-looks)) in
+      mul-le-mul-left (length (h .search .roster)) (omega (arith, buckets-few, X .few-looks)) in
       omega (arith, same-looks (R .stands .tally), R .resting .counted .looks)

@@ -119,6 +119,6 @@ module _ {layout : Layout} {sizes : List ℕ} {X : Setting layout sizes} {before
             (record {
               front = f;
               reached = q;
-              tally = t ∙ same-tally refl refl (omega arith) (rw k);
+              tally = t ∙ same-tally refl refl (omega arith) (rw k) (omega arith);
             }) c);
       }

@@ -1,16 +1,18 @@
 -- A removal of the least node of the lowest slot, where no node is at the current key.
 use Prim.Native.Nat.{ℕ, _+_, _-_, _*_, _≤_, _<_}
 use native.Mathlib.Omega.{arith}
+use native.Mathlib.Nat.{mul-le-mul}
 use mathlib.Core.Path.{_≡_, refl, sym, _∙_, ap, subst}
 use mathlib.Core.Logic.{_≢_, _⊎_, ⊎-elim}
 use mathlib.Core.List.{List}
 use lib.ListN.{length, getD, set}
-use Rattle.theory.specs.Heap.{Heap, bound, keyOf, boundsAfter, heapRemove}
-use Rattle.theory.proofs.Sums.{sum-at, sum-zero}
+use Rattle.theory.specs.Heap.{Heap, bound, keyOf, bucketFrom, readsFrom, boundsAfter, heapRemove}
+use Rattle.theory.proofs.Sums.{sum-at, sum-same, sum-most, sum-zero}
 use Rattle.theory.specs.Invariants.{Least, Fits, seg}
 use Rattle.theory.proofs.Cases.{same?}
 use Rattle.bounds.specs.Words.{boundsOf, segmentEnd, reboundWords}
 use Rattle.bounds.proofs.Words.{rebound-words-length, rebound-words-before, rebound-words-after}
+use Rattle.bounds.proofs.Bucket.{reads-most}
 use Rattle.bounds.proofs.Agreement.{after-words-agree}
 use Rattle.buckets.specs.Words.{places, placeWord, heads}
 use Rattle.buckets.specs.Answer as Answer
@@ -23,15 +25,16 @@ use Rattle.state.specs.Slots.{slotOf, slotWord, keyWord}
 use Rattle.state.specs.Stands.{Setting, Lists, Stands}
 use Rattle.state.proofs.Slots.{word-far, slot-bucket, slot-below, key-end}
 use Rattle.state.specs.Tallies.{looks, afterEvent}
-use Rattle.state.proofs.Tallies.{same-tally, same-insertions, same-decreases, same-shifts, same-looks}
-use Rattle.state.proofs.Find.{isWord-same, isWord-other, node, listed-word, later, key-word}
-use Rattle.state.proofs.Remove.{Removing, listed-min, listed-fit, listed-seg, moved-enters, moved-apart, listed-shifts, listed-stands}
+use Rattle.state.proofs.Tallies.{same-tally, same-insertions, same-decreases, same-shifts, same-looks, same-reads}
+use Rattle.state.proofs.Find.{isWord-low, isWord-same, isWord-other, node, listed-word, later, key-word}
+use Rattle.state.proofs.Remove.{Removing, listed-min, listed-fit, listed-seg, listed-equal, moved-enters, moved-apart, listed-shifts, listed-reads, listed-stands}
 use Rattle.placing.specs.Placing.{Formed, lists}
 use Rattle.finding.specs.Finding.{Holds, LowestBucket, InBucketSome, LowestSegment, looksOf}
 use Rattle.shifting.specs.Renewing.{Renews, renewed}
-use Rattle.shifting.specs.Moving.{shiftsOf, inSlot, Distributes, Distributed}
+use Rattle.shifting.specs.Moving.{shiftsOf, movedReads, inSlot, readsIn, Distributes, Distributed}
+use Rattle.shifting.proofs.Moving.{shifts-low}
 use Rattle.removal.specs.Removing.{Rests, Removal}
-use Rattle.removal.proofs.Counts.{nodes-few, shifts-few}
+use Rattle.removal.proofs.Counts.{nodes-few, shifts-few, reads-few}
 
 -- The numbers once the node of key x is removed with its looks, and nothing is moved yet.
 pub record Taken (x looked : ℕ) (s s₁ : State) : Type 0 where
@@ -179,6 +182,12 @@ module _ {layout : Layout} {sizes : List ℕ} {X : Setting layout sizes} {before
           (λ q. rw (other w q) (none-current w lo))
           (same? w v))
 
+      -- For no node are more bounds read than there are.
+      read-most : readsIn layout w₂ u (l .distances) j slot ≤ n * 22
+      read-most = sum-most n 22 (λ w. isWord (placeWord K slot) (getD (places n w₂) w 0) * movedReads u (l .distances) j w) (λ w lo.
+          let few : movedReads u (l .distances) j w ≤ 22 = omega (arith, reads-most u (getD (l .distances) w 0) j, b .high, X .agrees .sized .few) in
+          omega (arith, mul-le-mul (isWord-low (placeWord K slot) (getD (places n w₂) w 0)) few))
+
       -- The others of the slot can be moved.
       module _ {s₁ : State} (taken : Taken (getD (l .distances) v 0) (looksOf K j k) s s₁) where
         front-is : s₁ .front ≡ key
@@ -190,15 +199,19 @@ module _ {layout : Layout} {sizes : List ℕ} {X : Setting layout sizes} {before
           frontier = renewed-frontier .0;
           below = slot-in g;
           within = sym (slot-bucket (g .slot));
+          high = b .high;
           long = distances-long;
           enters = λ w lo e. let q = left w e in
               rw (front-is, key-of w lo)
               (moved-enters X (R .stands) (R .resting .rest) (R .resting .inv) (R .long) none-current (g .slot) (b .lower) (g .earlier) found u bounds-are w lo (q .0) (q .1));
+          equal = λ near w lo e. let q = left w e in
+              key-of w lo ∙ listed-equal X (R .stands) (R .resting .rest) (R .resting .inv) (R .long) none-current (g .slot) (b .lower) (g .earlier) found near w lo (q .0) (q .1) ∙ sym front-is;
           apart = λ w lo e. let q = left w e in
               rw (front-is, key-of w lo)
               (moved-apart X (R .stands) (R .resting .rest) (R .resting .inv) (R .long) none-current (g .slot) (b .lower) (g .earlier) found u bounds-are w lo (q .0) (q .1));
           current = taken .current ∙ sym (sum-zero n (λ w. isWord 1 (getD (places n w₂) w 0)) none-left);
           shifts-few = omega (arith, same-shifts (taken .tally), shifts-few R, nodes-few R);
+          reads-few = omega (arith, same-reads (taken .tally), reads-few R, read-most, shifts-low j (readsIn layout w₂ u (l .distances) j slot));
         }
 
         -- They have moved.
@@ -206,7 +219,7 @@ module _ {layout : Layout} {sizes : List ℕ} {X : Setting layout sizes} {before
           abbrev h′ : Heap
           h′ = heapRemove (X .shape) j (seg (X .shape) (h .bounds) j key) key v h
 
-          moved-is : (w : ℕ) → w < n → w ≢ v → place w ≡ slotWord K j k → getD (places n w₃) w 0 ≡ keyWord B K sizes u key (keyOf h w) j
+          moved-is : (w : ℕ) → w < n → w ≢ v → place w ≡ slotWord K j k → getD (places n w₃) w 0 ≡ keyWord B K sizes u key (keyOf h w) (bucketFrom u (keyOf h w) j)
           moved-is w lo q e = rw (← front-is, ← (key-of w lo)) (D .moved w lo (other w q ∙ e))
 
           kept-is : (w : ℕ) → w < n → w ≢ v → place w ≢ slotWord K j k → getD (places n w₃) w 0 ≡ place w
@@ -222,12 +235,22 @@ module _ {layout : Layout} {sizes : List ℕ} {X : Setting layout sizes} {before
           shifted = listed-shifts X (R .stands) (R .resting .rest) (R .resting .inv) (R .long) none-current (g .slot) (b .lower) (g .earlier) found
               (λ w. getD (places n w₂) w 0) here (λ w lo q. other w q)
 
-          removing : Removing key (h′ .shifts - h .shifts) (looksOf K j k) s s′
+          -- The keys that were read are the distances.
+          read : h′ .reads ≡ h .reads + shiftsOf j (readsIn layout w₂ u (l .distances) j slot)
+          read =
+              listed-reads X (R .stands) (R .resting .rest) (R .resting .inv) (R .long) none-current (g .slot) (b .lower) (g .earlier) found
+              (λ w. getD (places n w₂) w 0) here (λ w lo q. other w q) u bounds-are
+              ∙ ap (λ (c : ℕ). h .reads + shiftsOf j c)
+              (sum-same n (λ w. isWord (slotWord K j k) (getD (places n w₂) w 0) * readsFrom u (keyOf h w) j) (λ w. isWord (placeWord K slot) (getD (places n w₂) w 0) * movedReads u (l .distances) j w)
+              (λ w lo. ap (λ (x : ℕ). isWord (slotWord K j k) (getD (places n w₂) w 0) * readsFrom u x j) (sym (key-of w lo))))
+
+          removing : Removing key (shiftsOf j (inSlot layout w₂ slot)) (looksOf K j k) (shiftsOf j (readsIn layout w₂ u (l .distances) j slot)) s s′
           removing = record {
             front = D .front ∙ front-is;
             reached = D .reached ∙ taken .reached;
             tally = same-tally (same-insertions (D .tally) ∙ same-insertions (taken .tally)) (same-decreases (D .tally) ∙ same-decreases (taken .tally))
-                (omega (arith, same-shifts (D .tally), same-shifts (taken .tally), shifted)) (same-looks (D .tally) ∙ same-looks (taken .tally));
+                (omega (arith, same-shifts (D .tally), same-shifts (taken .tally))) (same-looks (D .tally) ∙ same-looks (taken .tally))
+                (omega (arith, same-reads (D .tally), same-reads (taken .tally)));
           }
 
           listed-removal : Removal X before h (lists w₃ (l .distances) (l .parents) (set (l .roster) (s .reached) v)) s′ v
@@ -238,7 +261,7 @@ module _ {layout : Layout} {sizes : List ℕ} {X : Setting layout sizes} {before
             stands = subst (λ (d : ℕ). Stands layout (X .shape) before (heapRemove (X .shape) j (seg (X .shape) (h .bounds) j d) d v h) (lists w₃ (l .distances) (l .parents) (set (l .roster) (s .reached) v)) s′)
                 (sym (D .front ∙ front-is))
                 (listed-stands X (R .stands) (R .resting .rest) (R .resting .inv) (R .long) none-current (g .slot) (b .lower) (g .earlier) found
-                u (D .frontier) here-is bounds-are bounds-left moved-is kept-is (looksOf K j k) refl removing (omega (arith, shifted)) (D .current));
+                u (D .frontier) here-is bounds-are bounds-left moved-is kept-is _ (looksOf K j k) _ shifted refl read removing (D .current));
           }
 
       -- The same of words that are known to be those.

@@ -58,21 +58,25 @@ counts-most nodes arcs reached decreases = omega (
   two-most reached decreases,
 )
 
-pub heap-whole : (word : List ℕ) (buckets placements looks : ℕ)
-    → ended word comma ++ ended (decimal buckets) comma ++ renderLine comma (placements ∷ looks ∷ [])
-    ≡ heapLine word buckets placements looks
+pub heap-whole : (word : List ℕ) (buckets placements looks reads : ℕ)
+    → ended word comma ++ ended (decimal buckets) comma ++ ended (decimal placements) comma ++ renderLine comma (looks ∷ reads ∷ [])
+    ≡ heapLine word buckets placements looks reads
 unfolding renderFields heapLine
-heap-whole word buckets placements looks = simp append-assoc
+heap-whole word buckets placements looks reads = simp append-assoc
 
-pub heap-most : (word : List ℕ) (buckets placements looks : ℕ) → length (heapLine word buckets placements looks) ≤ length word + 64
-heap-most word buckets placements looks = omega (
+pub heap-most : (word : List ℕ) (buckets placements looks reads : ℕ)
+    → length (heapLine word buckets placements looks reads) ≤ length word + 85
+heap-most word buckets placements looks reads = omega (
   arith,
-  ap length (heap-whole word buckets placements looks),
-  length-append (ended word comma ++ ended (decimal buckets) comma) (renderLine comma (placements ∷ looks ∷ [])),
+  ap length (heap-whole word buckets placements looks reads),
+  length-append (ended word comma ++ ended (decimal buckets) comma ++ ended (decimal placements) comma)
+      (renderLine comma (looks ∷ reads ∷ [])),
+  length-append (ended word comma ++ ended (decimal buckets) comma) (ended (decimal placements) comma),
   length-append (ended word comma) (ended (decimal buckets) comma),
   ended-length word comma,
   field-most buckets comma,
-  two-most placements looks,
+  field-most placements comma,
+  two-most looks reads,
 )
 
 -- ---- the lines of the nodes
@@ -126,9 +130,10 @@ nodes-most (suc v) distances parents = omega (
 
 -- ---- the answer
 
-pub accepted-whole : (nodes arcs reached decreases buckets₁ placements₁ looks₁ buckets₂ placements₂ looks₂ : ℕ) (distances parents : List ℕ)
-    → countsLine nodes arcs reached decreases ++ heapLine wordOne buckets₁ placements₁ looks₁
-    ++ heapLine wordTwo buckets₂ placements₂ looks₂ ++ nodeLines nodes distances parents
-    ≡ acceptedText nodes arcs reached decreases buckets₁ placements₁ looks₁ buckets₂ placements₂ looks₂ distances parents
+pub accepted-whole : (nodes arcs reached decreases buckets₁ placements₁ looks₁ reads₁ buckets₂ placements₂ looks₂ reads₂ : ℕ)
+    (distances parents : List ℕ)
+    → countsLine nodes arcs reached decreases ++ heapLine wordOne buckets₁ placements₁ looks₁ reads₁
+    ++ heapLine wordTwo buckets₂ placements₂ looks₂ reads₂ ++ nodeLines nodes distances parents
+    ≡ acceptedText nodes arcs reached decreases buckets₁ placements₁ looks₁ reads₁ buckets₂ placements₂ looks₂ reads₂ distances parents
 unfolding acceptedText
-accepted-whole nodes arcs reached decreases buckets₁ placements₁ looks₁ buckets₂ placements₂ looks₂ distances parents = refl
+accepted-whole nodes arcs reached decreases buckets₁ placements₁ looks₁ reads₁ buckets₂ placements₂ looks₂ reads₂ distances parents = refl

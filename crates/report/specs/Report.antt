@@ -35,9 +35,9 @@ refusedText number place = ended wordRefused comma ++ renderLine comma (number �
 unfoldable pub countsLine : (nodes arcs reached decreases : ℕ) → List ℕ
 countsLine nodes arcs reached decreases = renderLine comma (nodes ∷ arcs ∷ reached ∷ decreases ∷ [])
 
--- The line of a heap: its word, B, placements, looks (document 01, "Planning file").
-unfoldable pub heapLine : (word : List ℕ) → (buckets placements looks : ℕ) → List ℕ
-heapLine word buckets placements looks = ended word comma ++ renderLine comma (buckets ∷ placements ∷ looks ∷ [])
+-- The line of a heap: its word, B, placements, looks, reads (document 01, "Planning file"; document 02, paper 3).
+unfoldable pub heapLine : (word : List ℕ) → (buckets placements looks reads : ℕ) → List ℕ
+heapLine word buckets placements looks reads = ended word comma ++ renderLine comma (buckets ∷ placements ∷ looks ∷ reads ∷ [])
 
 -- A distance or a parent arc, `-` for none (document 01, "Planning file").
 unfoldable pub orNone : (value : ℕ) → List ℕ
@@ -53,10 +53,10 @@ nodeLines zero distances parents = []
 nodeLines (suc v) distances parents = nodeLines v distances parents ++ nodeLine v (getD distances v 0) (getD parents v 0)
 
 -- The answer to a planning file (document 01, "Planning file"): its first line, the line of each heap, the lines of the nodes.
-unfoldable pub acceptedText : (nodes arcs reached decreases : ℕ) → (buckets₁ placements₁ looks₁ : ℕ) → (buckets₂ placements₂ looks₂ : ℕ)
-    → (distances parents : List ℕ) → List ℕ
-acceptedText nodes arcs reached decreases buckets₁ placements₁ looks₁ buckets₂ placements₂ looks₂ distances parents =
+unfoldable pub acceptedText : (nodes arcs reached decreases : ℕ) → (buckets₁ placements₁ looks₁ reads₁ : ℕ)
+    → (buckets₂ placements₂ looks₂ reads₂ : ℕ) → (distances parents : List ℕ) → List ℕ
+acceptedText nodes arcs reached decreases buckets₁ placements₁ looks₁ reads₁ buckets₂ placements₂ looks₂ reads₂ distances parents =
     countsLine nodes arcs reached decreases
-    ++ heapLine wordOne buckets₁ placements₁ looks₁
-    ++ heapLine wordTwo buckets₂ placements₂ looks₂
+    ++ heapLine wordOne buckets₁ placements₁ looks₁ reads₁
+    ++ heapLine wordTwo buckets₂ placements₂ looks₂ reads₂
     ++ nodeLines nodes distances parents

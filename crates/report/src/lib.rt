@@ -16,6 +16,7 @@ pub struct HeapNumbers {
     pub buckets: u32,
     pub placements: u32,
     pub looks: u32,
+    pub reads: u32,
 }
 
 // The last two fields of a line.
@@ -73,13 +74,15 @@ fn write_counts(
 }
 
 fn write_heap(buffer: &mut [u8], at: usize, word: &[u8], heap: HeapNumbers) -> usize
-    requires { ⌜ at + length (now word) + 64 ≤ length (now buffer) ⌝ }
-    ensures { λ r. ⌜ Writes at (heapLine (now (word .entry)) (heap .buckets) (heap .placements) (heap .looks))
+    requires { ⌜ at + length (now word) + 85 ≤ length (now buffer) ⌝ }
+    ensures { λ r. ⌜ Writes at
+        (heapLine (now (word .entry)) (heap .buckets) (heap .placements) (heap .looks) (heap .reads))
         (now (buffer .entry)) (now (buffer .exit)) r ⌝ }
 {
     let second = put_word(buffer, at, word);
     let third = put_field(buffer, second, heap.buckets as u64, b',');
-    put_two(buffer, third, heap.placements as u64, heap.looks as u64)
+    let fourth = put_field(buffer, third, heap.placements as u64, b',');
+    put_two(buffer, fourth, heap.looks as u64, heap.reads as u64)
 }
 
 fn write_node(buffer: &mut [u8], at: usize, v: Node, distance: u32, parent: Arc) -> usize
@@ -127,8 +130,8 @@ pub fn write_answer(
     requires { ⌜ 512 + 64 * nodes ≤ length (now buffer) ⌝ }
     requires { ⌜ (nodes ≤ length (now distances)) × (nodes ≤ length (now parents)) ⌝ }
     ensures { λ r. ⌜ Writes 0
-        (acceptedText nodes arcs reached decreases (one .buckets) (one .placements) (one .looks)
-        (two .buckets) (two .placements) (two .looks) (now (distances .entry)) (now (parents .entry)))
+        (acceptedText nodes arcs reached decreases (one .buckets) (one .placements) (one .looks) (one .reads)
+        (two .buckets) (two .placements) (two .looks) (two .reads) (now (distances .entry)) (now (parents .entry)))
         (now (buffer .entry)) (now (buffer .exit)) r ⌝ }
 {
     let second = write_counts(buffer, 0, nodes, arcs, reached, decreases);

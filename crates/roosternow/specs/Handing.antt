@@ -19,7 +19,7 @@ use Rattle.answer_words.specs.Words.{runWords, routeWords, readWords, dimacsWor
 abbrev pub archiveVersion : ℕ
 archiveVersion = 2 * 1000 + 0
 
--- A run: its promise, and the numbers of its answer (document 01, "What a call returns").
+-- A run: its promise, and the numbers of its answer (document 01, "What a call returns"; document 02, paper 3).
 pub record RunHanded (L : Levels) (I : Inputs) (l l′ : Lent) (numbers′ : List ℕ) : Type 0 where
   pub answer : RunAnswer
   pub promised : Promised L I answer l l′

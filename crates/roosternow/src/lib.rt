@@ -36,7 +36,7 @@ pub extern "C" fn roosternow_one_level(
     parents: &mut [u32],
     roster: &mut [u32],
     work: &mut [u32],
-    numbers: &mut [u64; 7],
+    numbers: &mut [u64; 8],
 )
     ensures { λ _. ⌜ OneLevelHanded (inputs n ceiling source (now (starts .entry)) (now (heads .entry)) (now (costs .entry)) (now (holds .entry)))
         (lent (now (distances .entry)) (now (parents .entry)) (now (roster .entry)) (now (work .entry)))
@@ -73,7 +73,7 @@ pub extern "C" fn roosternow_two_level(
     parents: &mut [u32],
     roster: &mut [u32],
     work: &mut [u32],
-    numbers: &mut [u64; 7],
+    numbers: &mut [u64; 8],
 )
     ensures { λ _. ⌜ TwoLevelHanded segments (inputs n ceiling source (now (starts .entry)) (now (heads .entry)) (now (costs .entry)) (now (holds .entry)))
         (lent (now (distances .entry)) (now (parents .entry)) (now (roster .entry)) (now (work .entry)))

@@ -55,6 +55,7 @@ pub record Ended (h : Heap) (needed : ℕ) (l l′ : Lent) (s : State) : Type 0 
   pub reached : s .reached ≡ length (h .search .roster)
   pub tally : s .tally ≡ countsOf h
 
--- The counts of a run, from its tallies (document 01, "The tallies": placements are insertions, decreases and shifts).
+-- The counts of a run, from its tallies (document 01, "The tallies": placements are insertions, decreases and shifts; document 02,
+-- paper 3).
 abbrev pub countsTold : Tally → Counts
-countsTold t = record { decreases = t .decreases; placements = t .insertions + t .decreases + t .shifts; looks = t .looks }
+countsTold t = record { decreases = t .decreases; placements = t .insertions + t .decreases + t .shifts; looks = t .looks; reads = t .reads }

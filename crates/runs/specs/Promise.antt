@@ -14,9 +14,9 @@ use Rattle.theory.specs.Demands.{Roster, Demanded}
 use Rattle.theory.specs.Runs.{Inputs, Levels, one, two, heapBuckets, removalLooks, workWords, stepsOf}
 use Rattle.checks.specs.Checks.{firstFault, runChecks, Lengths}
 
--- The counts given back of the steps h (document 01, "The tallies").
+-- The counts given back of the steps h (document 01, "The tallies"; document 02, paper 3).
 abbrev pub countsGiven : Heap → Counts
-countsGiven h = record { decreases = h .search .decreases; placements = placements h; looks = h .looks }
+countsGiven h = record { decreases = h .search .decreases; placements = placements h; looks = h .looks; reads = h .reads }
 
 -- The numbers given back: those of the steps h with B buckets, or the first fault's (document 01, "What a call returns" and "The
 -- tallies").

@@ -26,6 +26,7 @@ fn counts(tally: Tally) -> Counts
         decreases: tally.decreases,
         placements: tally.insertions + tally.decreases + tally.shifts,
         looks: tally.looks,
+        reads: tally.reads,
     }
 }
 

@@ -31,7 +31,7 @@ use Rattle.search.specs.Starts.{Starts}
 
 -- The numbers of a run in which nothing has happened.
 abbrev pub blankState : State
-blankState = record { front = 0; current = 0; reached = 0; tally = record { insertions = 0; decreases = 0; shifts = 0; looks = 0 } }
+blankState = record { front = 0; current = 0; reached = 0; tally = record { insertions = 0; decreases = 0; shifts = 0; looks = 0; reads = 0 } }
 
 module _ {layout : Layout} {sizes : List ℕ} {X : Setting layout sizes} {words distances parents : List ℕ} {top source : ℕ} (S : Starts X words distances parents top source) where
   abbrev n : ℕ
@@ -72,7 +72,7 @@ module _ {layout : Layout} {sizes : List ℕ} {X : Setting layout sizes} {words 
         same j (inl l) = first-words-before n sizes B top zeros some in-zeros j (omega arith)
         same j (inr l) = first-words-after n sizes B top zeros some in-zeros j (omega (arith, X .agrees .sized .few))
 
-    blank-place : (v : ℕ) → getD (places n w) v 0 ≡ 0
+    pub blank-place : (v : ℕ) → getD (places n w) v 0 ≡ 0
     blank-place v = ap (λ (l : List ℕ). getD l v 0) (first-frontier .1 ∙ zero-frontier .1) ∙ getD-replicate-same n v 0
 
     first-bound : (i : ℕ) → 1 ≤ i → i ≤ B → bound (boundsOf n w) i ≡ bound (firstBounds sh) i
@@ -101,6 +101,7 @@ module _ {layout : Layout} {sizes : List ℕ} {X : Setting layout sizes} {words 
       parents-long = ap length orphans ∙ length-replicate (length parents) none ∙ S .parents-long;
       insertions-few = omega arith;
       decreases-few = omega arith;
+      reads-few = omega arith;
     }
 
   pub started : heapLabel sh source 0 none (heapBlank N sh) ≡ heapStart N sh

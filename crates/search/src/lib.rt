@@ -53,6 +53,7 @@ pub fn start(
         decreases: 0,
         shifts: 0,
         looks: 0,
+        reads: 0,
     };
     let blank = State {
         front: 0,
@@ -60,7 +61,7 @@ pub fn start(
         reached: 0,
         tally,
     };
-    placing::label(
+    placing::insert(
         words,
         distances,
         parents,

@@ -1,5 +1,5 @@
 -- A node of the segment that is used is moved; and all of them, one after the other.
-use Prim.Native.Nat.{ℕ, suc, _+_, _≤_, _<_}
+use Prim.Native.Nat.{ℕ, _+_, _*_, _≤_, _<_}
 use native.Mathlib.Omega.{arith}
 use mathlib.Core.Path.{_≡_, refl, sym, _∙_, ap, subst}
 use mathlib.Core.Bool.{Bool, true, false, cond}
@@ -7,10 +7,12 @@ use mathlib.Core.Logic.{_≢_, _⊎_, inl, inr, ⊎-elim}
 use mathlib.Core.List.{List}
 use lib.Dec.{ltb}
 use lib.ListN.{length, getD}
+use borrow.Author.Tests.{lt-ltb}
 use Rattle.theory.specs.Heap.{bound}
 use Rattle.theory.proofs.Cases.{same?}
-use Rattle.theory.proofs.Sums.{sum-change, sum-zero}
+use Rattle.theory.proofs.Sums.{sum-at, sum-change, sum-zero}
 use Rattle.bounds.specs.Words.{boundsOf}
+use Rattle.bounds.proofs.Bucket.{bucketFrom-same, reads-same}
 use Rattle.buckets.specs.Words.{places, placeWord}
 use Rattle.buckets.specs.Answer.{InSlot, None}
 use Rattle.buckets.specs.declared.Found.{Found}
@@ -24,20 +26,23 @@ use Rattle.state.specs.Places.{isWord, withWord}
 use Rattle.state.specs.Slots.{keyWord, Enters}
 use Rattle.state.proofs.Slots.{same-word, same-enters}
 use Rattle.state.proofs.Find.{words-few, isWord-same, isWord-other}
-use Rattle.state.specs.Tallies.{shifts, afterEvent}
-use Rattle.state.proofs.Tallies.{same-tally, same-insertions, same-decreases, same-shifts, same-looks}
+use Rattle.state.specs.Tallies.{afterShifts}
+use Rattle.state.proofs.Tallies.{same-tally, same-insertions, same-decreases, same-shifts, same-looks, same-reads}
 use Rattle.placing.specs.Placing.{Formed}
-use Rattle.shifting.specs.Moving.{shiftsOf, movedWord, Settles, Settled, inSlot, Distributes, Distributed}
+use Rattle.shifting.specs.Moving.{shiftsOf, movedBucket, movedReads, movedWord, Settles, Settled, inSlot, readsIn, Distributes, Distributed}
 
 -- The key of node v can be placed (document 01, "One-level heap").
 pub record Moves (layout : Layout) (sizes words distances : List ℕ) (s : State) (bucket v : ℕ) : Type 0 where
   pub formed : Formed layout sizes
   pub frontier : Frontier (layout .nodes) (layout .slots) (layout .segments) words
   pub node : v < layout .nodes
+  pub within : bucket ≤ layout .buckets
   pub long : layout .nodes ≤ length distances
-  pub enters : Enters (layout .buckets) (layout .segments) sizes (boundsOf (layout .nodes) words) (s .front) (getD distances v 0) bucket
+  pub enters : Enters (layout .buckets) (layout .segments) sizes (boundsOf (layout .nodes) words) (s .front) (getD distances v 0) (movedBucket layout words distances bucket v)
+  pub equal : bucket ≤ 1 → getD distances v 0 ≡ s .front
   pub current-few : s .current ≤ 4096
   pub shifts-few : s .tally .shifts < 4294967295
+  pub reads-few : 1 < bucket → s .tally .reads + movedReads (boundsOf (layout .nodes) words) distances bucket v < 4294967296
 
 -- Node v has moved (document 01, "One-level heap").
 pub record Moved (layout : Layout) (sizes words words′ distances : List ℕ) (s s′ : State) (bucket v : ℕ) : Type 0 where
@@ -45,14 +50,37 @@ pub record Moved (layout : Layout) (sizes words words′ distances : List ℕ) (
   pub front : s′ .front ≡ s .front
   pub current : s′ .current ≡ s .current + isWord 1 (movedWord layout sizes words distances (s .front) bucket v)
   pub reached : s′ .reached ≡ s .reached
-  pub tally : s′ .tally ≡ afterEvent (shifts (shiftsOf bucket 1)) (s .tally)
+  pub tally : s′ .tally ≡ afterShifts (shiftsOf bucket 1) (shiftsOf bucket (movedReads (boundsOf (layout .nodes) words) distances bucket v)) (s .tally)
 
 -- The bounds are as they were after a change of a place word.
 pub bounds-same : {n slots K B : ℕ} {w w′ : List ℕ} {v x : ℕ} → B ≤ 22 → Placed n slots K w w′ v x → (i : ℕ) → 1 ≤ i → i ≤ B → bound (boundsOf n w) i ≡ bound (boundsOf n w′) i
 bounds-same few P i low high = sym (P .bounds i (omega arith))
 
+-- A node's search depends on the bounds of the buckets alone.
+module _ (layout : Layout) (words words′ distances : List ℕ) (bucket v : ℕ) (within : bucket ≤ layout .buckets)
+    (same : (i : ℕ) → 1 ≤ i → i ≤ layout .buckets → bound (boundsOf (layout .nodes) words) i ≡ bound (boundsOf (layout .nodes) words′) i) where
+  same-found : movedBucket layout words distances bucket v ≡ movedBucket layout words′ distances bucket v
+  same-found = bucketFrom-same (boundsOf (layout .nodes) words) (boundsOf (layout .nodes) words′) (getD distances v 0) bucket (λ i low high. same i low (omega (arith, within)))
+
+  same-read : movedReads (boundsOf (layout .nodes) words) distances bucket v ≡ movedReads (boundsOf (layout .nodes) words′) distances bucket v
+  same-read = reads-same (boundsOf (layout .nodes) words) (boundsOf (layout .nodes) words′) (getD distances v 0) bucket (λ i low high. same i low (omega (arith, within)))
+
+  module _ {sizes : List ℕ} {front : ℕ} (E : Enters (layout .buckets) (layout .segments) sizes (boundsOf (layout .nodes) words) front (getD distances v 0) (movedBucket layout words distances bucket v)) where
+    again-enters : Enters (layout .buckets) (layout .segments) sizes (boundsOf (layout .nodes) words′) front (getD distances v 0) (movedBucket layout words′ distances bucket v)
+    again-enters = rw same-found at (same-enters E (boundsOf (layout .nodes) words′) same)
+
+    again-word : movedWord layout sizes words distances front bucket v ≡ movedWord layout sizes words′ distances front bucket v
+    again-word = same-word E (boundsOf (layout .nodes) words′) same
+        ∙ ap (keyWord (layout .buckets) (layout .segments) sizes (boundsOf (layout .nodes) words′) front (getD distances v 0)) same-found
+
 module _ {layout : Layout} {sizes words distances : List ℕ} {s : State} {bucket v : ℕ} (M : Moves layout sizes words distances s bucket v) {w₁ : List ℕ}
     (P : Placed (layout .nodes) (layout .slots) (layout .segments) words w₁ v 0) where
+  same-bounds : (i : ℕ) → 1 ≤ i → i ≤ layout .buckets → bound (boundsOf (layout .nodes) words) i ≡ bound (boundsOf (layout .nodes) w₁) i
+  same-bounds = bounds-same (M .formed .sized .few) P
+
+  read-is : movedReads (boundsOf (layout .nodes) words) distances bucket v ≡ movedReads (boundsOf (layout .nodes) w₁) distances bucket v
+  read-is = same-read layout words w₁ distances bucket v (M .within) same-bounds
+
   pub settles : Settles layout sizes w₁ distances s bucket v
   settles = record {
     entering = record {
@@ -60,22 +88,25 @@ module _ {layout : Layout} {sizes words distances : List ℕ} {s : State} {bucke
       frontier = P .frontier;
       node = M .node;
       unlabelled = placed-here (M .frontier) P (M .node);
-      enters = same-enters (M .enters) (boundsOf (layout .nodes) w₁) (bounds-same (M .formed .sized .few) P);
+      enters = again-enters layout words w₁ distances bucket v (M .within) same-bounds (M .enters);
     };
+    within = M .within;
+    equal = M .equal;
     long = M .long;
     current-few = M .current-few;
     shifts-few = M .shifts-few;
+    reads-few = λ far. omega (arith, M .reads-few far, read-is);
   }
 
   pub moved : {w₂ : List ℕ} {s′ : State} → Settled layout sizes w₁ w₂ distances s s′ bucket v → Moved layout sizes words w₂ distances s s′ bucket v
   moved S =
-      let e = same-word (M .enters) (boundsOf (layout .nodes) w₁) (bounds-same (M .formed .sized .few) P) in
+      let e = again-word layout words w₁ distances bucket v (M .within) same-bounds (M .enters) in
       record {
         placed = rw e (placed-again P (S .entered .placed));
         front = S .front;
         current = S .current ∙ ap (λ (k : ℕ). s .current + k) (S .entered .counted ∙ ap (isWord 1) (sym e));
         reached = S .reached;
-        tally = S .tally;
+        tally = S .tally ∙ ap (λ (r : ℕ). afterShifts (shiftsOf bucket 1) (shiftsOf bucket r) (s .tally)) (sym read-is);
       }
 
 -- What was found at the head of a slot.
@@ -96,16 +127,17 @@ pub record Distributing (layout : Layout) (sizes words₀ distances : List ℕ) 
   pub front : s .front ≡ s₀ .front
   pub current : s .current ≡ withWord (layout .nodes) words 1
   pub reached : s .reached ≡ s₀ .reached
-  pub tally : afterEvent (shifts (shiftsOf bucket (inSlot layout words slot))) (s .tally) ≡ afterEvent (shifts (shiftsOf bucket (inSlot layout words₀ slot))) (s₀ .tally)
+  pub tally : afterShifts (shiftsOf bucket (inSlot layout words slot)) (shiftsOf bucket (readsIn layout words (boundsOf (layout .nodes) words₀) distances bucket slot)) (s .tally)
+      ≡ afterShifts (shiftsOf bucket (inSlot layout words₀ slot)) (shiftsOf bucket (readsIn layout words₀ (boundsOf (layout .nodes) words₀) distances bucket slot)) (s₀ .tally)
 
-shifts-next : (bucket a c : ℕ) → shiftsOf bucket (suc a) + c ≡ shiftsOf bucket a + (c + shiftsOf bucket 1)
-shifts-next bucket a c = go (ltb 1 bucket)
+shifts-next : (bucket a b c : ℕ) → shiftsOf bucket (a + b) + c ≡ shiftsOf bucket a + (c + shiftsOf bucket b)
+shifts-next bucket a b c = go (ltb 1 bucket)
   where
-    go : (t : Bool) → cond t (suc a) 0 + c ≡ cond t a 0 + (c + cond t 1 0)
+    go : (t : Bool) → cond t (a + b) 0 + c ≡ cond t a 0 + (c + cond t b 0)
     go true = omega arith
     go false = omega arith
 
-shifts-low : (bucket a : ℕ) → shiftsOf bucket a ≤ a
+pub shifts-low : (bucket a : ℕ) → shiftsOf bucket a ≤ a
 shifts-low bucket a = go (ltb 1 bucket)
   where
     go : (t : Bool) → cond t a 0 ≤ a
@@ -118,6 +150,10 @@ module _ {layout : Layout} {sizes words₀ distances : List ℕ} {s₀ : State} 
 
   abbrev from : ℕ
   from = placeWord (layout .segments) slot
+
+  -- The bounds that are read for node w.
+  abbrev read : ℕ → ℕ
+  read = movedReads (boundsOf n words₀) distances bucket
 
   pub distributing-start : Distributing layout sizes words₀ distances s₀ bucket slot words₀ s₀
   distributing-start = record {
@@ -143,18 +179,33 @@ module _ {layout : Layout} {sizes words₀ distances : List ℕ} {s₀ : State} 
     bounds-from i low high = sym (P .bounds i (omega (arith, Q .formed .sized .few)))
 
     same-moved : (w : ℕ) → w < n → place w ≡ from → movedWord layout sizes words₀ distances (s₀ .front) bucket w ≡ movedWord layout sizes words distances (s .front) bucket w
-    same-moved w l e = same-word (Q .enters w l (first-word w l e)) (boundsOf n words) bounds-from
-        ∙ ap (λ (f : ℕ). keyWord (layout .buckets) (layout .segments) sizes (boundsOf n words) f (getD distances w 0) bucket) (sym (P .front))
+    same-moved w l e = again-word layout words₀ words distances bucket w (Q .high) bounds-from (Q .enters w l (first-word w l e))
+        ∙ ap (λ (f : ℕ). movedWord layout sizes words distances f bucket w) (sym (P .front))
+
+    read-same : (w : ℕ) → read w ≡ movedReads (boundsOf n words) distances bucket w
+    read-same w = same-read layout words₀ words distances bucket w (Q .high) bounds-from
+
+    one-read : (v : ℕ) → place v ≡ from → isWord from (place v) * read v ≡ read v
+    one-read v e = ap (λ (c : ℕ). c * read v) (ap (isWord from) e ∙ isWord-same from) ∙ omega arith
+
+    -- What is read for a node of the slot is a part of what is read for all.
+    read-there : (v : ℕ) → v < n → place v ≡ from → read v ≤ readsIn layout words (boundsOf n words₀) distances bucket slot
+    read-there v l e = omega (arith, one-read v e, sum-at n v (λ w. isWord from (place w) * read w) l)
 
     pub distributing-moves : (v : ℕ) → v < n → place v ≡ from → Moves layout sizes words distances s bucket v
     distributing-moves v l e = record {
       formed = Q .formed;
       frontier = P .frontier;
       node = l;
+      within = Q .high;
       long = Q .long;
-      enters = rw (P .front) (same-enters (Q .enters v l (first-word v l e)) (boundsOf n words) bounds-from);
+      enters = rw (P .front) (again-enters layout words₀ words distances bucket v (Q .high) bounds-from (Q .enters v l (first-word v l e)));
+      equal = λ low. Q .equal low v l (first-word v l e) ∙ sym (P .front);
       current-few = omega (arith, P .current, words-few n 1 place, Q .frontier .few);
       shifts-few = omega (arith, same-shifts (P .tally), Q .shifts-few, shifts-low bucket (inSlot layout words₀ slot), words-few n from (λ w. getD (places n words₀) w 0));
+      reads-few = λ far.
+          let whole : shiftsOf bucket (readsIn layout words (boundsOf n words₀) distances bucket slot) ≡ readsIn layout words (boundsOf n words₀) distances bucket slot = rw (lt-ltb 1 bucket far) in
+          omega (arith, same-reads (P .tally), Q .reads-few, read-there v l e, read-same v);
     }
 
     module _ {v : ℕ} (l : v < n) (e : place v ≡ from) {words′ : List ℕ} {s′ : State} (M : Moved layout sizes words words′ distances s s′ bucket v) where
@@ -174,8 +225,19 @@ module _ {layout : Layout} {sizes words₀ distances : List ℕ} {s₀ : State} 
       count c = ap (λ (x : ℕ). withWord n words′ c + isWord c x) (sym e)
           ∙ sum-change n v (λ w. isWord c (place w)) (λ w. isWord c (getD (places n words′) w 0)) l (λ w q. ap (isWord c) (there w q))
 
-      one-fewer : inSlot layout words slot ≡ suc (inSlot layout words′ slot)
+      one-fewer : inSlot layout words slot ≡ inSlot layout words′ slot + 1
       one-fewer = omega (arith, count from, isWord-same from, isWord-other from (getD (places n words′) v 0) new-apart)
+
+      less-read : readsIn layout words (boundsOf n words₀) distances bucket slot ≡ readsIn layout words′ (boundsOf n words₀) distances bucket slot + read v
+      less-read =
+          let gone : isWord from (getD (places n words′) v 0) * read v ≡ 0 =
+          ap (λ (c : ℕ). c * read v) (isWord-other from (getD (places n words′) v 0) new-apart) ∙ omega arith in
+          omega (
+            arith,
+            gone,
+            one-read v e,
+            sum-change n v (λ w. isWord from (place w) * read w) (λ w. isWord from (getD (places n words′) w 0) * read w) l (λ w q. ap (λ (x : ℕ). isWord from x * read w) (there w q)),
+          )
 
       pub distributing-next : Distributing layout sizes words₀ distances s₀ bucket slot words′ s′ × (inSlot layout words′ slot < inSlot layout words slot)
       distributing-next = (
@@ -191,8 +253,16 @@ module _ {layout : Layout} {sizes words₀ distances : List ℕ} {s₀ : State} 
           current = omega (arith, M .current, P .current, count 1, isWord-other 1 from (omega arith), ap (isWord 1) (placed-here (P .frontier) (M .placed) l));
           reached = M .reached ∙ P .reached;
           tally = same-tally (same-insertions (M .tally) ∙ same-insertions (P .tally)) (same-decreases (M .tally) ∙ same-decreases (P .tally))
-              (omega (arith, same-shifts (P .tally), same-shifts (M .tally), shifts-next bucket (inSlot layout words′ slot) (s .tally .shifts), ap (shiftsOf bucket) one-fewer))
-              (same-looks (M .tally) ∙ same-looks (P .tally));
+              (omega (arith, same-shifts (P .tally), same-shifts (M .tally), shifts-next bucket (inSlot layout words′ slot) 1 (s .tally .shifts), ap (shiftsOf bucket) one-fewer))
+              (same-looks (M .tally) ∙ same-looks (P .tally))
+              (omega (
+                arith,
+                same-reads (P .tally),
+                same-reads (M .tally),
+                ap (shiftsOf bucket) (read-same v),
+                shifts-next bucket (readsIn layout words′ (boundsOf n words₀) distances bucket slot) (read v) (s .tally .reads),
+                ap (shiftsOf bucket) less-read,
+              ));
         },
         omega (arith, one-fewer),
       )
@@ -217,8 +287,13 @@ module _ {layout : Layout} {sizes words₀ distances : List ℕ} {s₀ : State} 
       current = P .current;
       reached = P .reached;
       tally = same-tally (same-insertions (P .tally)) (same-decreases (P .tally))
-          (omega (arith, same-shifts (P .tally), ap (shiftsOf bucket) zero-left, shifts-low bucket 0)) (same-looks (P .tally));
+          (omega (arith, same-shifts (P .tally), ap (shiftsOf bucket) zero-left, shifts-low bucket 0)) (same-looks (P .tally))
+          (omega (arith, same-reads (P .tally), ap (shiftsOf bucket) none-read, shifts-low bucket 0));
     }
       where
         zero-left : inSlot layout words slot ≡ 0
         zero-left = sum-zero n (λ w. isWord from (place w)) (λ w l. isWord-other from (place w) (λ e. none w (l, e)))
+
+        none-read : readsIn layout words (boundsOf n words₀) distances bucket slot ≡ 0
+        none-read = sum-zero n (λ w. isWord from (place w) * read w)
+            (λ w l. ap (λ (c : ℕ). c * read w) (isWord-other from (place w) (λ e. none w (l, e))) ∙ omega arith)

@@ -4,12 +4,9 @@ use buckets::Found;
 use model::Node;
 use state::Layout;
 use state::State;
-use state::Tally;
 ghost use mathlib.Core.Path.{_≡_};
-ghost use Prim.Native.Nat.{_<_};
-ghost use Rattle.state.specs.Tallies.{Event, afterEvent};
 ghost use Rattle.shifting.specs.Renewing.{Renews, renewed};
-ghost use Rattle.shifting.specs.Moving.{shiftsOf, Settles, Settled, Distributes, Distributed};
+ghost use Rattle.shifting.specs.Moving.{Settles, Settled, Distributes, Distributed};
 
 // The bounds below the bucket that is used are set anew. Below bucket 1 there are none.
 pub fn renew_bounds(
@@ -36,18 +33,8 @@ pub fn renew_bounds(
     bounds::set_bounds(words, n, sizes, end, key - 1, 1, bucket);
 }
 
-// From a bucket above 1 a move is a shift.
-fn shifted_from(tally: Tally, bucket: usize) -> Tally
-    requires { ⌜ tally .shifts < 4294967295 ⌝ }
-    ensures { λ r. ⌜ r ≡ afterEvent (Event.shifts (shiftsOf bucket 1)) tally ⌝ }
-{
-    if 1 < bucket {
-        return tally.shifted();
-    }
-    tally
-}
-
-// A node of the segment that is used, which has left its slot, goes where its key belongs.
+// A node of the segment that is used, which has left its slot, goes where its key belongs. In bucket 1 all keys of a segment are equal: such a
+// node comes to the current key without a search, and is not shifted.
 fn move_node(
     words: &mut [u32],
     distances: &[u32],
@@ -60,14 +47,26 @@ fn move_node(
     requires { ⌜ Settles layout (now sizes) (now words) (now distances) state bucket (v .0) ⌝ }
     ensures { λ r. ⌜ Settled layout (now (sizes .entry)) (now (words .entry)) (now (words .exit)) (now (distances .entry)) state r bucket (v .0) ⌝ }
 {
+    let n = layout.nodes;
+    if bucket <= 1 {
+        frontier::enter_current(words, n, layout.slots, layout.segments, v);
+        let tally = state.tally;
+        return State {
+            front: state.front,
+            current: state.current + 1,
+            reached: state.reached,
+            tally,
+        };
+    }
     let at = v.0 as usize;
     let key = distances[at];
-    let current = placing::enter(words, sizes, layout, state.front, v, key, bucket);
+    let found = bounds::bucket_of(words, n, key, bucket);
+    let current = placing::enter(words, sizes, layout, state.front, v, key, found.bucket);
     State {
         front: state.front,
         current: state.current + current,
         reached: state.reached,
-        tally: shifted_from(state.tally, bucket),
+        tally: state.tally.shifted().read(found.reads),
     }
 }
 

@@ -21,7 +21,7 @@ use denote.Laws.{Is, shows}
 use denote.Memory.{mem, pointee, cellAt}
 use denote.Steps.{opens, closes, owned, peeks}
 use denote.Plain.{Nothing}
-use denote.Builtin.{RefMutOf}
+use denote.Builtin.{RefMutOf, u32}
 use denote.Exit.{yes}
 use denote.Signature.{Slot, plain}
 use denote.Triple.End.{Kepts}
@@ -34,22 +34,22 @@ use Rattle.state.proofs.Tally.Laws as T′
 
 -- the machine's words of a tally, and their types
 abbrev pub words : Tally → Vals
-words t = vcons (vint w32 (t .insertions)) (vcons (vint w32 (t .decreases)) (vcons (vint w32 (t .shifts)) (vcons (vint w32 (t .looks)) vnil)))
+words t = vcons (vint w32 (t .looks)) (vcons (vint w32 (t .shifts)) (vcons (vint w32 (t .insertions)) (vcons (vint w32 (t .reads)) (vcons (vint w32 (t .decreases)) vnil))))
 
 abbrev word-types : Tys
-word-types = tcons (tyInt w32) (tcons (tyInt w32) (tcons (tyInt w32) (tcons (tyInt w32) tnil)))
+word-types = tcons (tyInt w32) (tcons (tyInt w32) (tcons (tyInt w32) (tcons (tyInt w32) (tcons (tyInt w32) tnil))))
 
 -- every count of a tally is a word, which is all that a tally owns
 abbrev pub Words : Tally → Type 0
-Words t = (t .insertions < 2 ^ 32) × (t .decreases < 2 ^ 32) × (t .shifts < 2 ^ 32) × (t .looks < 2 ^ 32)
+Words t = (t .looks < 2 ^ 32) × (t .shifts < 2 ^ 32) × (t .insertions < 2 ^ 32) × (t .reads < 2 ^ 32) × (t .decreases < 2 ^ 32)
 
 pub is-tally : (t : Tally) → Words t → Is T.the-row t (vstruct (words t) ∷ [])
-is-tally t w = LL.owes T.the-type T′.the-laws t ((refl, w .0), ((refl, w .1), ((refl, w .2), ((refl, w .3), tt))))
+is-tally t w = LL.owes T.the-type T′.the-laws t ((refl, w .0), ((refl, w .1), ((refl, w .2), ((refl, w .3), ((refl, w .4), tt)))))
 
 pub tally-words : (t : Tally) → Is T.the-row t (vstruct (words t) ∷ []) → Words t
-tally-words t is = let f : _ = LL.owed T.the-type T′.the-laws t (vstruct (words t) ∷ []) is in (f .0 .1, f .1 .0 .1, f .1 .1 .0 .1, f .1 .1 .1 .0 .1)
+tally-words t is = let f : _ = LL.owed T.the-type T′.the-laws t (vstruct (words t) ∷ []) is in (f .0 .1, f .1 .0 .1, f .1 .1 .0 .1, f .1 .1 .1 .0 .1, f .1 .1 .1 .1 .0 .1)
 
--- One of the four counts: the number of its field, its value, and the tally with another value there.
+-- One of the five counts: the number of its field, its value, and the tally with another value there.
 pub record Count : Type 0 where
   pub number : ℕ
   pub of : Tally → ℕ
@@ -60,52 +60,64 @@ pub record Count : Type 0 where
   pub fits : (t : Tally) → Words t → of t < 2 ^ 32
   pub keeps : (t : Tally) (n : ℕ) → Words t → n < 2 ^ 32 → Words (put t n)
 
-abbrev pub insertions : Count
-insertions = record {
+abbrev pub looks : Count
+looks = record {
   number = 0;
-  of = λ t. t .insertions;
-  put = λ t n. record { insertions = n; decreases = t .decreases; shifts = t .shifts; looks = t .looks };
+  of = λ t. t .looks;
+  put = λ t n. record { insertions = t .insertions; decreases = t .decreases; shifts = t .shifts; looks = n; reads = t .reads };
   stands = refl;
   got = λ t. refl;
   set = λ t n. refl;
   fits = λ t w. w .0;
-  keeps = λ t n w n-fits. (n-fits, w .1, w .2, w .3);
-}
-
-abbrev pub decreases : Count
-decreases = record {
-  number = 1;
-  of = λ t. t .decreases;
-  put = λ t n. record { insertions = t .insertions; decreases = n; shifts = t .shifts; looks = t .looks };
-  stands = refl;
-  got = λ t. refl;
-  set = λ t n. refl;
-  fits = λ t w. w .1;
-  keeps = λ t n w n-fits. (w .0, n-fits, w .2, w .3);
+  keeps = λ t n w n-fits. (n-fits, w .1, w .2, w .3, w .4);
 }
 
 abbrev pub shifts : Count
 shifts = record {
-  number = 2;
+  number = 1;
   of = λ t. t .shifts;
-  put = λ t n. record { insertions = t .insertions; decreases = t .decreases; shifts = n; looks = t .looks };
+  put = λ t n. record { insertions = t .insertions; decreases = t .decreases; shifts = n; looks = t .looks; reads = t .reads };
+  stands = refl;
+  got = λ t. refl;
+  set = λ t n. refl;
+  fits = λ t w. w .1;
+  keeps = λ t n w n-fits. (w .0, n-fits, w .2, w .3, w .4);
+}
+
+abbrev pub insertions : Count
+insertions = record {
+  number = 2;
+  of = λ t. t .insertions;
+  put = λ t n. record { insertions = n; decreases = t .decreases; shifts = t .shifts; looks = t .looks; reads = t .reads };
   stands = refl;
   got = λ t. refl;
   set = λ t n. refl;
   fits = λ t w. w .2;
-  keeps = λ t n w n-fits. (w .0, w .1, n-fits, w .3);
+  keeps = λ t n w n-fits. (w .0, w .1, n-fits, w .3, w .4);
 }
 
-abbrev pub looks : Count
-looks = record {
+abbrev pub reads : Count
+reads = record {
   number = 3;
-  of = λ t. t .looks;
-  put = λ t n. record { insertions = t .insertions; decreases = t .decreases; shifts = t .shifts; looks = n };
+  of = λ t. t .reads;
+  put = λ t n. record { insertions = t .insertions; decreases = t .decreases; shifts = t .shifts; looks = t .looks; reads = n };
   stands = refl;
   got = λ t. refl;
   set = λ t n. refl;
   fits = λ t w. w .3;
-  keeps = λ t n w n-fits. (w .0, w .1, w .2, n-fits);
+  keeps = λ t n w n-fits. (w .0, w .1, w .2, n-fits, w .4);
+}
+
+abbrev pub decreases : Count
+decreases = record {
+  number = 4;
+  of = λ t. t .decreases;
+  put = λ t n. record { insertions = t .insertions; decreases = n; shifts = t .shifts; looks = t .looks; reads = t .reads };
+  stands = refl;
+  got = λ t. refl;
+  set = λ t n. refl;
+  fits = λ t w. w .4;
+  keeps = λ t n w n-fits. (w .0, w .1, w .2, w .3, n-fits);
 }
 
 -- a goal P ∗ Q, where Q holds of itself: P is left
@@ -115,6 +127,13 @@ stated {𝓤 = 𝓤} {P = P} {Q = Q} k h = step (λ s. record { prf = via 𝓤 P
 -- a function that takes a `&mut Tally` and the parameters ss, and returns nothing
 abbrev pub taking : (ss : List (Slot 1)) → Kepts ss → Ended
 taking ss ks = record { signature = record { lifetimes = 1; outlives = []; params = RefMutOf (0 ∷ []) tt (plain (λ _. T.the-row)) (λ _. tt) ∷ ss; result = plain (λ _. Nothing) }; kept = (yes, ks) }
+
+-- such a function whose one other parameter is a number
+abbrev pub given-number : List (Slot 1)
+given-number = plain (λ _. u32) ∷ []
+
+abbrev pub taking-number : Ended
+taking-number = taking given-number (yes, tt)
 
 -- the type of a reference to a tally, the tally t in memory at (b, o), what a borrow of it holds, and what its holder sees of it
 abbrev pub ref : Lifetime → Ty
@@ -130,11 +149,11 @@ abbrev pub seen : GName → Tally → Fml
 seen γ t = fobs γ (T.the-row .coded .code t)
 
 module _ {M : Type 1} {𝓤 : URA M} {H : Heap 𝓤} {A : Atoms 𝓤} {K : Type 0} {W : Given 𝓤 H A} {Γ : List (Item 𝓤)} (c : Count) (t : Tally) where
-  reads : K → {b o : ℕ} → Reads K W (‵ (lying b o t) ∷ Γ) (tyInt w32) b (o + 4 * c .number) (vint w32 (c .of t))
-  reads k {b} {o} = subst (λ (v : Val). Reads K W (‵ (lying b o t) ∷ Γ) (tyInt w32) b (o + 4 * c .number) v) (c .got t) (look-in k 0 (sub k (c .number) (c .stands) (whole k)))
+  loads : K → {b o : ℕ} → Reads K W (‵ (lying b o t) ∷ Γ) (tyInt w32) b (o + 4 * c .number) (vint w32 (c .of t))
+  loads k {b} {o} = subst (λ (v : Val). Reads K W (‵ (lying b o t) ∷ Γ) (tyInt w32) b (o + 4 * c .number) v) (c .got t) (look-in k 0 (sub k (c .number) (c .stands) (whole k)))
 
-  writes : K → {b o : ℕ} (n : ℕ) → n < 2 ^ 32 → Writes K W (‵ (lying b o t) ∷ Γ) (tyInt w32) b (o + 4 * c .number) (vint w32 n) (‵ (lying b o (c .put t n)) ∷ Γ)
-  writes k {b} {o} n n-fits =
+  stores : K → {b o : ℕ} (n : ℕ) → n < 2 ^ 32 → Writes K W (‵ (lying b o t) ∷ Γ) (tyInt w32) b (o + 4 * c .number) (vint w32 n) (‵ (lying b o (c .put t n)) ∷ Γ)
+  stores k {b} {o} n n-fits =
       subst (λ (vs : Vals). Writes K W (‵ (lying b o t) ∷ Γ) (tyInt w32) b (o + 4 * c .number) (vint w32 n) (‵ (cellAt fullShare (T.the-row .mir) (vstruct vs ∷ []) b o) ∷ Γ)) (c .set t n)
       (store-in k 0 (sub k (c .number) (c .stands) (whole k)) (tt, record { fits = n-fits }))
 
@@ -165,8 +184,8 @@ module _ {M : Type 1} {𝓤 : URA M} {H : Heap 𝓤} {A : Atoms 𝓤} {K : Type 
       opens k tt T.the-row {h = t} b o (λ vs. spelt k T.the-row (Is T.the-row) (shows 𝓤 H A T.the-row) (LL.vals T.the-type T′.the-laws) (LL.tells T.the-type T′.the-laws) fullShare t vs b o $
       move k (1 ∷ []) $ peeks k T.the-row (Is T.the-row) (shows 𝓤 H A T.the-row) t (LL.vals T.the-type T′.the-laws t) (λ is. drop k $
       -- [the tally's cell; the open borrow; obs; auth; what x reads; _1; _i; _j]
-      assigns k (of-opd k (load k (found k e₁ (hop k (look k 5 refl) (fld k (c .stands) (stop k)))) (reads c t k))) (found k eᵢ (stop k)) (init k 6 refl (tt, record { fits = c .fits t (tally-words t is) })) $
+      assigns k (of-opd k (load k (found k e₁ (hop k (look k 5 refl) (fld k (c .stands) (stop k)))) (loads c t k))) (found k eᵢ (stop k)) (init k 6 refl (tt, record { fits = c .fits t (tally-words t is) })) $
       move k (4 ∷ []) $ assigns k (bin k (load k (found k eᵢ (stop k)) (look k 6 refl)) (is-x _) (record { fits = ok })) (found k eⱼ (stop k)) (init k 7 refl (tt, record { fits = ok })) $
-      move k (1 ∷ []) $ assigns k (of-opd k (load k (found k eⱼ (stop k)) (look k 7 refl))) (found k e₁ (hop k (look k 5 refl) (fld k (c .stands) (stop k)))) (writes c t k (c .of t + n) ok) $
+      move k (1 ∷ []) $ assigns k (of-opd k (load k (found k eⱼ (stop k)) (look k 7 refl))) (found k e₁ (hop k (look k 5 refl) (fld k (c .stands) (stop k)))) (stores c t k (c .of t + n) ok) $
       owned k T.the-row (Is T.the-row) ((LL.makes T.the-type T′.the-plain) 𝓤 H A) (c .put t (c .of t + n)) _ (is-tally (c .put t (c .of t + n)) (c .keeps t (c .of t + n) (tally-words t is) ok)) $
       move k (1 ∷ 0 ∷ 3 ∷ 4 ∷ 5 ∷ []) $ closes k tt T.the-row (c .put t (c .of t + n)) (vstruct (words (c .put t (c .of t + n))) ∷ []) b o $ s)))

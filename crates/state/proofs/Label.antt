@@ -10,13 +10,13 @@ use lib.ListN.{getD, set}
 use borrow.Author.Tests.{ne-eqb, ltb-true}
 use Rattle.theory.specs.Shape.{Shape}
 use Rattle.theory.specs.Search.{Mark, unlabelled, labelled, scanned, mark, below, label}
-use Rattle.theory.specs.Heap.{Heap, bound, bucketOf, keyOf, bucketFrom, searchStart, bucketFor, heapLabel}
+use Rattle.theory.specs.Heap.{Heap, bound, bucketOf, keyOf, bucketFrom, readsFrom, searchStart, bucketFor, readsFor, heapLabel}
 use Rattle.theory.proofs.Cases.{same?}
 use Rattle.theory.proofs.Sums.{sum-change}
 use Rattle.theory.specs.Invariants.{HeapInv, Labelling}
 use Rattle.theory.proofs.Heap.Label.{put}
 use Rattle.bounds.specs.Words.{segmentNumber}
-use Rattle.bounds.proofs.Bucket.{bucketFrom-same}
+use Rattle.bounds.proofs.Bucket.{bucketFrom-same, reads-same}
 use Rattle.buckets.specs.Words
 use Rattle.frontier.specs.Frontier.{Placed}
 use Rattle.frontier.specs.Frontier.Laws.{placed-here, placed-other}
@@ -29,12 +29,12 @@ use Rattle.state.specs.Tallies.{afterLabel}
 use Rattle.state.proofs.Places.Label.{place-is, label-here, label-other}
 use Rattle.state.proofs.Slots.{word-far, key-fits}
 
--- Which numbers change: the labelled nodes at the current key, and the tallies.
-pub record Counting (m : Mark) (word : ℕ) (s s′ : State) : Type 0 where
+-- Which numbers change: the labelled nodes at the current key, and the tallies; so many bounds were read.
+pub record Counting (m : Mark) (word read : ℕ) (s s′ : State) : Type 0 where
   pub front : s′ .front ≡ s .front
   pub current : s′ .current ≡ s .current + isWord 1 word
   pub reached : s′ .reached ≡ s .reached
-  pub tally : s′ .tally ≡ afterLabel m (s .tally)
+  pub tally : s′ .tally ≡ afterLabel m read (s .tally)
 
 module _ {layout : Layout} {sizes : List ℕ} (X : Setting layout sizes) {before : List ℕ} {h : Heap} {l : Lists} {s : State} (T : Stands layout (X .shape) before h l s)
     (inv : HeapInv (X .network) (X .shape) (s .front) h) {v x : ℕ} (lab : Labelling (X .network) (X .shape) h v x) (late : s .front ≤ x)
@@ -54,10 +54,13 @@ module _ {layout : Layout} {sizes : List ℕ} (X : Setting layout sizes) {before
   abbrev start : ℕ
   start = searchStart sh (mark (h .search) v) (bucketOf h v)
 
-  abbrev word : ℕ
-  word = keyWord B K sizes u (s .front) x start
+  abbrev found : ℕ
+  found = bucketFrom u x start
 
-  start-low : start ≤ B
+  abbrev word : ℕ
+  word = keyWord B K sizes u (s .front) x found
+
+  pub start-low : start ≤ B
   start-low = go (mark (h .search) v) refl (lab .unscanned)
     where
       go : (m : Mark) → mark (h .search) v ≡ m → m ≢ scanned → searchStart sh m (bucketOf h v) ≤ B
@@ -66,8 +69,11 @@ module _ {layout : Layout} {sizes : List ℕ} (X : Setting layout sizes) {before
       go scanned e n = absurd (n refl)
 
   -- The word that is stored is that of the step.
-  same-bucket : bucketFrom u x start ≡ bucketFor sh v x h
+  same-bucket : found ≡ bucketFor sh v x h
   same-bucket = bucketFrom-same u (h .bounds) x start (λ i low high. read i low (omega (arith, start-low)))
+
+  same-reads : readsFrom u x start ≡ readsFor sh v x h
+  same-reads = reads-same u (h .bounds) x start (λ i low high. read i low (omega (arith, start-low)))
 
   bucket-low : (1 ≤ bucketFor sh v x h) × (bucketFor sh v x h ≤ B)
   bucket-low = let f = put (X .lawful) inv lab .0 in (f .low, omega (arith, f .high, X .agrees .buckets))
@@ -79,14 +85,13 @@ module _ {layout : Layout} {sizes : List ℕ} (X : Setting layout sizes) {before
       rw (same-bucket, r, g)
 
   -- The key can be placed.
-  pub label-enters : Enters B K sizes u (s .front) x start
+  pub label-enters : Enters B K sizes u (s .front) x found
   label-enters =
       let b = bucketFor sh v x h in
       let f = put (X .lawful) inv lab .0 in
       let r = read b (bucket-low .0) (bucket-low .1) in
       let g : segmentNumber B K sizes b (bound (h .bounds) b) x ≡ sh .segment b (bound (h .bounds) b) x = sym (X .agrees .segment b (bound (h .bounds) b) x) in
       record {
-        within = start-low;
         fits = λ _. rw (same-bucket, r, g) (key-fits (X .lawful) (X .agrees) (inv .bounds) f late);
         under = λ _. rw (same-bucket, r) (f .under);
       }
@@ -117,7 +122,7 @@ module _ {layout : Layout} {sizes : List ℕ} (X : Setting layout sizes) {before
             (omega (arith, word-far K (bucketOf h v) k))
         go scanned e less q = absurd (q refl)
 
-    pub label-stands : {s′ : State} (a : ℕ) → Counting (mark (h .search) v) word s s′
+    pub label-stands : {s′ : State} (a : ℕ) → Counting (mark (h .search) v) word (readsFrom u x start) s s′
         → Stands layout sh before (heapLabel sh v x a h)
         (record { words = w′; distances = set (l .distances) v x; parents = set (l .parents) v a; roster = l .roster }) s′
     label-stands {s′} a c = record {
@@ -138,5 +143,5 @@ module _ {layout : Layout} {sizes : List ℕ} (X : Setting layout sizes) {before
         ap (isWord 1) new-here,
       );
       reached = unfold heapLabel label in (c .reached ∙ T .reached);
-      tally = unfold heapLabel label in (c .tally ∙ ap (afterLabel (mark (h .search) v)) (T .tally));
+      tally = unfold heapLabel label in (c .tally ∙ (rw (T .tally, same-reads)));
     }

@@ -42,7 +42,7 @@ abbrev pub held : ℕ → Tally → Fml
 held l t = fat fullShare T′.mir l 0 (vstruct (words t))
 
 pub typed : (t : Tally) → Words t → Holds (hasTy T′.mir (vstruct (words t))) × WT (vstruct (words t))
-typed t w = (tt, (record { fits = w .0 }, (record { fits = w .1 }, (record { fits = w .2 }, (record { fits = w .3 }, tt)))))
+typed t w = (tt, (record { fits = w .0 }, (record { fits = w .1 }, (record { fits = w .2 }, (record { fits = w .3 }, (record { fits = w .4 }, tt))))))
 
 module _ {M : Type 1} (𝓤 : URA M) (H : Heap 𝓤) (A : Atoms 𝓤) (W : Given 𝓤 H A) (l : ℕ) (t : Tally) where
   into-memory : Words t → ent 𝓤 (sem 𝓤 H A (held l t)) (sem 𝓤 H A (mem T.the-row .lies t l 0))

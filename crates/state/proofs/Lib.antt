@@ -6,5 +6,7 @@ pub mod Find
 pub mod Remove
 mod Counting
 mod OneMore
+mod SomeMore
 mod Lending
 mod ByValue
+mod ByValueWith

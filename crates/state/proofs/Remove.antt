@@ -1,5 +1,5 @@
 -- A removal in the words is the step's: of a node at the current key, and of the least node of the lowest slot.
-use Prim.Native.Nat.{ℕ, suc, _+_, _-_, _≤_, _<_}
+use Prim.Native.Nat.{ℕ, suc, _+_, _*_, _≤_, _<_}
 use native.Mathlib.Omega.{arith}
 use mathlib.Core.Path.{_≡_, refl, sym, _∙_, ap}
 use mathlib.Core.Bool.{cond}
@@ -14,16 +14,16 @@ use Rattle.model.specs.declared.Check.the-variants.{Passed}
 use Rattle.theory.specs.Sums.{sumBelow}
 use Rattle.theory.specs.Shape.{Shape}
 use Rattle.theory.specs.Search.{Mark, unlabelled, labelled, scanned, mark, remove}
-use Rattle.theory.specs.Heap.{Heap, bound, bucketOf, keyOf, bucketFrom, segmentOf, boundsAfter, heapRemove}
+use Rattle.theory.specs.Heap.{Heap, bound, bucketOf, keyOf, bucketFrom, readsFrom, segmentOf, boundsAfter, heapRemove}
 use Rattle.theory.proofs.Cases.{split, same?, labelled≢scanned, labelled≢unlabelled, mark-cases}
-use Rattle.theory.proofs.Sums.{sum-change}
+use Rattle.theory.proofs.Sums.{sum-change, sum-same}
 use Rattle.theory.specs.Invariants.{Labelled, Least, AtRest, Fits, seg, HeapInv}
 use Rattle.theory.proofs.Search.Invariant.{scans-fewer}
 use Rattle.theory.proofs.Heap.Bounds.{after-same}
 use Rattle.theory.proofs.Heap.Shift.{bounds-after}
 use Rattle.theory.proofs.Heap.Remove.{falls}
 use Rattle.bounds.specs.Words.{boundsOf, segmentNumber, segmentLooks}
-use Rattle.bounds.proofs.Bucket.{bucketFrom-same}
+use Rattle.bounds.proofs.Bucket.{bucketFrom-same, reads-same}
 use Rattle.buckets.specs.Words
 use Rattle.buckets.specs.Answer.{InSlot, InBucket}
 use Rattle.buckets.specs.Answer as Answer
@@ -35,9 +35,9 @@ use Rattle.state.specs.Places.{placeOf, isWord, withWord}
 use Rattle.state.specs.Slots.{slotOf, slotWord, keyWord, SlotFits, Enters}
 use Rattle.state.specs.Stands.{Setting, Lists, Stands}
 use Rattle.state.specs.Tallies.{afterRemoval}
-use Rattle.state.proofs.Tallies.{same-tally, same-insertions, same-decreases, same-shifts, same-looks}
+use Rattle.state.proofs.Tallies.{same-tally, same-insertions, same-decreases, same-shifts, same-looks, same-reads}
 use Rattle.state.proofs.Places.Label.{place-is}
-use Rattle.state.proofs.Places.Remove.{removed-scanned, removed-unlabelled, removed-poured, removed-other, removed-current, first-equal, shifts-first, shifts-sum, poured}
+use Rattle.state.proofs.Places.Remove.{removed-scanned, removed-unlabelled, removed-poured, removed-other, removed-current, first-equal, shifts-first, shifts-sum, reads-first, reads-sum, poured}
 use Rattle.state.proofs.Slots.{word-far, same-slot, key-fits}
 use Rattle.state.proofs.Find.{current-least, current-fits, later, listed-word, slot-word, slot-fits, listed-least, listed-fits, listed-segment}
 
@@ -51,11 +51,11 @@ roster-next hr before v h =
     ∙ sym (append-assoc hr (v ∷ []) (drop (suc (length hr)) before))
     ∙ ap (λ (i : ℕ). (hr ++ (v ∷ [])) ++ drop i before) (sym e)
 
--- The numbers after a removal at distance d, with these shifts and looks.
-pub record Removing (d shifted looked : ℕ) (s s′ : State) : Type 0 where
+-- The numbers after a removal at distance d, with these shifts, looks and reads.
+pub record Removing (d shifted looked read : ℕ) (s s′ : State) : Type 0 where
   pub front : s′ .front ≡ d
   pub reached : s′ .reached ≡ s .reached + 1
-  pub tally : s′ .tally ≡ afterRemoval shifted looked (s .tally)
+  pub tally : s′ .tally ≡ afterRemoval shifted looked read (s .tally)
 
 module _ {layout : Layout} {sizes : List ℕ} (X : Setting layout sizes) {before : List ℕ} {h : Heap} {l : Lists} {s : State} (T : Stands layout (X .shape) before h l s)
     (rest : AtRest (X .network) (X .ceiling) (s .front) (h .search)) (inv : HeapInv (X .network) (X .shape) (s .front) h) (long : layout .nodes ≤ length before) where
@@ -118,7 +118,7 @@ module _ {layout : Layout} {sizes : List ℕ} (X : Setting layout sizes) {before
         let b : segmentLooks K k ≡ sh .looks k = sym (X .agrees .looks k) in
         rw (u, a, b, same-looks (T .tally))
 
-    pub current-stands : {s′ : State} → Removing d 0 (1 + segmentLooks K (segmentNumber B K sizes 1 (bound (boundsOf n (l .words)) 1) d)) s s′ → s′ .current + 1 ≡ s .current
+    pub current-stands : {s′ : State} → Removing d 0 (1 + segmentLooks K (segmentNumber B K sizes 1 (bound (boundsOf n (l .words)) 1) d)) 0 s s′ → s′ .current + 1 ≡ s .current
         → Stands layout sh before (heapRemove sh 1 k d v h)
         (record { words = w′; distances = l .distances; parents = l .parents; roster = set (l .roster) (s .reached) v }) s′
     current-stands {s′} c one = record {
@@ -141,7 +141,8 @@ module _ {layout : Layout} {sizes : List ℕ} (X : Setting layout sizes) {before
       );
       reached = omega (arith, c .reached, T .reached, reached-after 1 k d v);
       tally = c .tally ∙ same-tally (unfold heapRemove remove in same-insertions (T .tally)) (unfold heapRemove remove in same-decreases (T .tally))
-          (omega (arith, same-shifts (T .tally), shifts-first (X .lawful) rest inv fit min (slotWord K) refl)) looks-is;
+          (omega (arith, same-shifts (T .tally), shifts-first (X .lawful) rest inv fit min (slotWord K) refl)) looks-is
+          (omega (arith, same-reads (T .tally), reads-first (X .lawful) rest inv fit min (slotWord K) refl));
     }
 
   -- The least node of the lowest slot, where no node is at the current key.
@@ -176,6 +177,12 @@ module _ {layout : Layout} {sizes : List ℕ} (X : Setting layout sizes) {before
     in-segment : (w : ℕ) → w < n → place w ≡ slotWord K j k → Labelled (h .search) w × (bucketOf h w ≡ j) × (segmentOf sh h w ≡ seg sh (h .bounds) j key)
     in-segment w low e = let r = slot-word X T rest inv w j k slot low e in (r .0, r .2, r .3 ∙ listed-seg)
 
+    -- In bucket 1 all nodes of the segment have the smallest key.
+    pub listed-equal : j ≤ 1 → (w : ℕ) → w < n → w ≢ v → place w ≡ slotWord K j k → keyOf h w ≡ key
+    listed-equal near w low q e =
+        let r = in-segment w low e in
+        first-equal (X .lawful) rest inv listed-fit listed-min (slotWord K) w (r .0) q (omega (arith, slot .first)) (r .1) (r .2)
+
     -- The word that a node of the segment is given, by words whose bounds are the new ones.
     module _ (u : List ℕ) (bounds : (i : ℕ) → 1 ≤ i → i ≤ B → bound u i ≡ bound after i) where
       moved-bucket : (w : ℕ) → bucketFrom u (keyOf h w) j ≡ bucketFrom after (keyOf h w) j
@@ -188,11 +195,11 @@ module _ {layout : Layout} {sizes : List ℕ} (X : Setting layout sizes) {before
           let r = in-segment w low e in
           elim (split 1 j) [
             | inl far ↦ rw (r .1) at (falls (X .lawful) rest inv listed-fit listed-min w (r .0) (record { bucket = far; there = r .1; segment = r .2; other = q }))
-            | inr near ↦ absurd (z (first-equal (X .lawful) rest inv listed-fit listed-min (slotWord K) w (r .0) q (omega (arith, slot .first)) (r .1) (r .2)))
+            | inr near ↦ absurd (z (listed-equal near w low q e))
           ]
 
       moved-word : (w : ℕ) → w < n → w ≢ v → place w ≡ slotWord K j k
-          → keyWord B K sizes u key (keyOf h w) j ≡ poured (X .lawful) rest inv listed-fit listed-min (slotWord K) (keyOf h w)
+          → keyWord B K sizes u key (keyOf h w) (bucketFrom u (keyOf h w) j) ≡ poured (X .lawful) rest inv listed-fit listed-min (slotWord K) (keyOf h w)
       moved-word w low q e = ⊎-elim
           (λ z. rw (eq-eqb (keyOf h w) key z))
           (λ z. rw (ne-eqb (keyOf h w) key z) (apart z))
@@ -221,9 +228,8 @@ module _ {layout : Layout} {sizes : List ℕ} (X : Setting layout sizes) {before
           rw (moved-bucket w, c, g)
           (key-fits (X .lawful) (X .agrees) (bounds-after (X .lawful) (inv .bounds) listed-fit late) (f .0) (listed-min .least w (in-segment w low e .0)))
 
-      pub moved-enters : (w : ℕ) → w < n → w ≢ v → place w ≡ slotWord K j k → Enters B K sizes u key (keyOf h w) j
+      pub moved-enters : (w : ℕ) → w < n → w ≢ v → place w ≡ slotWord K j k → Enters B K sizes u key (keyOf h w) (bucketFrom u (keyOf h w) j)
       moved-enters w low q e = record {
-        within = slot .last;
         fits = moved-fits w low q e;
         under = λ z.
             let f = moved-low w low q e z in
@@ -231,7 +237,7 @@ module _ {layout : Layout} {sizes : List ℕ} (X : Setting layout sizes) {before
             rw (moved-bucket w, c) (f .0 .under);
       }
 
-      pub moved-apart : (w : ℕ) → w < n → w ≢ v → place w ≡ slotWord K j k → keyWord B K sizes u key (keyOf h w) j ≢ slotWord K j k
+      pub moved-apart : (w : ℕ) → w < n → w ≢ v → place w ≡ slotWord K j k → keyWord B K sizes u key (keyOf h w) (bucketFrom u (keyOf h w) j) ≢ slotWord K j k
       moved-apart w low q e = ⊎-elim
           (λ z. rw (eq-eqb (keyOf h w) key z) (λ same. omega (arith, word-far K j k)))
           (λ z. rw (ne-eqb (keyOf h w) key z) (λ same.
@@ -241,6 +247,12 @@ module _ {layout : Layout} {sizes : List ℕ} (X : Setting layout sizes) {before
 
     -- How many shifts there are: the nodes that still have the segment's word when v has left it, where j is not 1.
     module _ (word : ℕ → ℕ) (here : word v ≡ 2) (other : (w : ℕ) → w < n → w ≢ v → word w ≡ place w) where
+      one-slot : (w : ℕ) → Labelled (h .search) w → slotWord K (bucketOf h w) (segmentOf sh h w) ≡ slotWord K j (seg sh (h .bounds) j key)
+          → (bucketOf h w ≡ j) × (segmentOf sh h w ≡ seg sh (h .bounds) j key)
+      one-slot w on e =
+          let q = same-slot (slot-fits X T rest inv w on) slot (omega (arith, X .slots, T .frontier .linked .fits .few)) (e ∙ ap (slotWord K j) (sym listed-seg)) in
+          (q .0, q .1 ∙ listed-seg)
+
       pub listed-shifts : h′ .shifts ≡ h .shifts + cond (ltb 1 j) (sumBelow n (λ w. isWord (slotWord K j k) (word w))) 0
       listed-shifts = elim (split 1 j) [
         | inl far ↦
@@ -252,17 +264,34 @@ module _ {layout : Layout} {sizes : List ℕ} (X : Setting layout sizes) {before
             ∙ ap (λ (i : ℕ). sumBelow n (λ w. isWord (slotWord K j i) (word w))) (sym listed-seg)))
         | inr near ↦ rw (le-ltb 1 j near) (omega (arith, shifts-first (X .lawful) rest inv listed-fit listed-min (slotWord K) (omega (arith, slot .first))))
       ]
-        where
-          one-slot : (w : ℕ) → Labelled (h .search) w → slotWord K (bucketOf h w) (segmentOf sh h w) ≡ slotWord K j (seg sh (h .bounds) j key)
-              → (bucketOf h w ≡ j) × (segmentOf sh h w ≡ seg sh (h .bounds) j key)
-          one-slot w on e =
-              let q = same-slot (slot-fits X T rest inv w on) slot (omega (arith, X .slots, T .frontier .linked .fits .few)) (e ∙ ap (slotWord K j) (sym listed-seg)) in
-              (q .0, q .1 ∙ listed-seg)
+
+      -- How many bounds are read for them, by words whose bounds are the new ones.
+      module _ (u : List ℕ) (bounds : (i : ℕ) → 1 ≤ i → i ≤ B → bound u i ≡ bound after i) where
+        abbrev read : ℕ → ℕ
+        read w = isWord (slotWord K j k) (word w) * readsFrom u (keyOf h w) j
+
+        read-is : (w : ℕ) → isWord (slotWord K j (seg sh (h .bounds) j key)) (word w) * readsFrom after (keyOf h w) j ≡ read w
+        read-is w =
+            let q = reads-same u after (keyOf h w) j (λ i low high. bounds i low (omega (arith, slot .last))) in
+            ap (λ (i : ℕ). isWord (slotWord K j i) (word w) * readsFrom after (keyOf h w) j) (sym listed-seg)
+            ∙ ap (λ (c : ℕ). isWord (slotWord K j k) (word w) * c) (sym q)
+
+        pub listed-reads : h′ .reads ≡ h .reads + cond (ltb 1 j) (sumBelow n read) 0
+        listed-reads = elim (split 1 j) [
+          | inl far ↦
+              rw (lt-ltb 1 j far)
+              (reads-sum (X .lawful) rest inv listed-fit listed-min (slotWord K) (λ b m. omega (arith, word-far K b m)) one-slot (later X T rest inv none-current)
+              word here (λ w low q. other w (omega (arith, X .nodes)) q ∙ T .places w (omega (arith, X .nodes))) far
+              ∙ ap (λ (c : ℕ). h .reads + c)
+              (ap (λ (m : ℕ). sumBelow m (λ w. isWord (slotWord K j (seg sh (h .bounds) j key)) (word w) * readsFrom after (keyOf h w) j)) (X .nodes)
+              ∙ sum-same n (λ w. isWord (slotWord K j (seg sh (h .bounds) j key)) (word w) * readsFrom after (keyOf h w) j) read (λ w _. read-is w)))
+          | inr near ↦ rw (le-ltb 1 j near) (omega (arith, reads-first (X .lawful) rest inv listed-fit listed-min (slotWord K) (omega (arith, slot .first))))
+        ]
 
     -- The words after the removal.
     module _ (u : List ℕ) {w′ : List ℕ} (frontier : Frontier n (layout .slots) K w′) (here : getD (Words.places n w′) v 0 ≡ 2)
         (bounds : (i : ℕ) → 1 ≤ i → i ≤ B → bound u i ≡ bound after i) (same-bounds : (i : ℕ) → 1 ≤ i → i ≤ B → bound (boundsOf n w′) i ≡ bound after i)
-        (moved : (w : ℕ) → w < n → w ≢ v → place w ≡ slotWord K j k → getD (Words.places n w′) w 0 ≡ keyWord B K sizes u key (keyOf h w) j)
+        (moved : (w : ℕ) → w < n → w ≢ v → place w ≡ slotWord K j k → getD (Words.places n w′) w 0 ≡ keyWord B K sizes u key (keyOf h w) (bucketFrom u (keyOf h w) j))
         (kept : (w : ℕ) → w < n → w ≢ v → place w ≢ slotWord K j k → getD (Words.places n w′) w 0 ≡ place w) where
       plain-place : (w : ℕ) → w < n → w ≢ v → mark (h .search) w ≢ labelled → place w ≤ 2 → getD (Words.places n w′) w 0 ≡ placeOf (slotWord K) sh key h′ w
       plain-place w low q not small =
@@ -284,10 +313,10 @@ module _ {layout : Layout} {sizes : List ℕ} (X : Setting layout sizes) {before
           out : (bucketOf h w ≡ j) × (segmentOf sh h w ≡ seg sh (h .bounds) j key) → place w ≡ slotWord K j k
           out r = listed-word X T rest inv w on (later X T rest inv none-current w on) ∙ cc (r .0, r .1, listed-seg)
 
-      pub listed-stands : {s′ : State} (looked : ℕ) → looked ≡ j + segmentLooks K k → Removing key (h′ .shifts - h .shifts) looked s s′ → h .shifts ≤ h′ .shifts
-          → s′ .current ≡ withWord n w′ 1
+      pub listed-stands : {s′ : State} (shifted looked read : ℕ) → h′ .shifts ≡ h .shifts + shifted → looked ≡ j + segmentLooks K k → h′ .reads ≡ h .reads + read
+          → Removing key shifted looked read s s′ → s′ .current ≡ withWord n w′ 1
           → Stands layout sh before h′ (record { words = w′; distances = l .distances; parents = l .parents; roster = set (l .roster) (s .reached) v }) s′
-      listed-stands {s′} looked looks-are c grown count = record {
+      listed-stands {s′} shifted looked read shifts-are looks-are reads-are c count = record {
         frontier = frontier;
         places = λ w low. rw (c .front) (⊎-elim
             (λ e. rw e (here ∙ sym (removed-scanned (X .lawful) rest inv listed-fit listed-min (slotWord K))))
@@ -303,5 +332,5 @@ module _ {layout : Layout} {sizes : List ℕ} (X : Setting layout sizes) {before
         current = count;
         reached = omega (arith, c .reached, T .reached, reached-after j (seg sh (h .bounds) j key) key v);
         tally = c .tally ∙ same-tally (unfold heapRemove remove in same-insertions (T .tally)) (unfold heapRemove remove in same-decreases (T .tally))
-            (omega (arith, same-shifts (T .tally))) (listed-looks looked looks-are);
+            (omega (arith, same-shifts (T .tally), shifts-are)) (listed-looks looked looks-are) (omega (arith, same-reads (T .tally), reads-are));
       }

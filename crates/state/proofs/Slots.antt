@@ -9,14 +9,13 @@ use mathlib.Core.List.{List}
 use lib.Arith.{digits-div}
 use borrow.Author.Tests.{eq-eqb, ne-eqb}
 use Rattle.theory.specs.Shape.{Shape}
-use Rattle.theory.specs.Heap.{bound, bucketFrom}
+use Rattle.theory.specs.Heap.{bound}
 use Rattle.theory.proofs.Cases.{split, same?}
 use Rattle.theory.specs.Lawful.{Lawful}
 use Rattle.theory.specs.Invariants.{Bounds, Fits}
 use Rattle.theory.proofs.Heap.Buckets.{late-range}
 use Rattle.bounds.specs.Words.{segmented, segmentNumber, segmentEnd, Agrees}
 use Rattle.bounds.proofs.Segments.{segmented-below, number-whole, number-most}
-use Rattle.bounds.proofs.Bucket.{bucketFrom-same}
 use Rattle.buckets.specs.Words.{slotBucket}
 use Rattle.state.specs.Slots.{slotOf, slotWord, keyWord, SlotFits, Enters}
 
@@ -75,24 +74,18 @@ key-end {sh} {u = u} law agree bounds {b} {x} fit late =
     ]
 
 -- The place of a key depends on the bounds of the buckets alone.
-module _ {B K : ℕ} {sizes u : List ℕ} {front x start : ℕ} (E : Enters B K sizes u front x start) (u′ : List ℕ) (same : (i : ℕ) → 1 ≤ i → i ≤ B → bound u i ≡ bound u′ i) where
-  same-from : bucketFrom u x start ≡ bucketFrom u′ x start
-  same-from = bucketFrom-same u u′ x start (λ i low high. same i low (omega (arith, E .within)))
+module _ {B K : ℕ} {sizes u : List ℕ} {front x b : ℕ} (E : Enters B K sizes u front x b) (u′ : List ℕ) (same : (i : ℕ) → 1 ≤ i → i ≤ B → bound u i ≡ bound u′ i) where
+  same-bound : x ≢ front → bound u b ≡ bound u′ b
+  same-bound later = let f = E .fits later in same b (f .first) (f .last)
 
-  same-bound : x ≢ front → bound u (bucketFrom u x start) ≡ bound u′ (bucketFrom u′ x start)
-  same-bound later = let f = E .fits later in same (bucketFrom u x start) (f .first) (f .last) ∙ ap (bound u′) same-from
-
-  pub same-word : keyWord B K sizes u front x start ≡ keyWord B K sizes u′ front x start
+  pub same-word : keyWord B K sizes u front x b ≡ keyWord B K sizes u′ front x b
   same-word = ⊎-elim
       (λ e. rw (eq-eqb x front e))
-      (λ q. let c = same-bound q in rw (ne-eqb x front q) (cc (same-from, c)))
+      (λ q. rw (ne-eqb x front q, same-bound q))
       (same? x front)
 
-  pub same-enters : Enters B K sizes u′ front x start
+  pub same-enters : Enters B K sizes u′ front x b
   same-enters = record {
-    within = E .within;
-    fits = λ q.
-        subst (λ (b : ℕ). SlotFits B K b (segmentNumber B K sizes b (bound u′ (bucketFrom u′ x start)) x)) same-from
-        (subst (λ (c : ℕ). SlotFits B K (bucketFrom u x start) (segmentNumber B K sizes (bucketFrom u x start) c x)) (same-bound q) (E .fits q));
+    fits = λ q. subst (λ (c : ℕ). SlotFits B K b (segmentNumber B K sizes b c x)) (same-bound q) (E .fits q);
     under = λ q. rw (← (same-bound q)) (E .under q);
   }

@@ -7,7 +7,7 @@ use mathlib.Core.List.{List}
 use lib.Dec.{eqb}
 use Rattle.buckets.specs.Words.{placeWord}
 use Rattle.bounds.specs.Words.{segmentNumber}
-use Rattle.theory.specs.Heap.{bound, bucketFrom}
+use Rattle.theory.specs.Heap.{bound}
 
 -- Segment k of bucket b, where a bucket has K segments (document 01, "Two-level heap").
 abbrev pub slotOf : (K b k : ℕ) → ℕ
@@ -17,14 +17,14 @@ slotOf K b k = (b - 1) * K + (k - 1)
 abbrev pub slotWord : (K b k : ℕ) → ℕ
 slotWord K b k = placeWord K (slotOf K b k)
 
--- The place word of a node of bucket b and key x, by the bounds u (document 01, "Two-level heap").
-abbrev pub bucketWord : (B K : ℕ) → (sizes u : List ℕ) → (b x : ℕ) → ℕ
-bucketWord B K sizes u b x = slotWord K b (segmentNumber B K sizes b (bound u b) x)
+-- The place word of a node of key x in bucket b whose bound is u (document 01, "Two-level heap").
+abbrev pub bucketWord : (B K : ℕ) → (sizes : List ℕ) → (b u x : ℕ) → ℕ
+bucketWord B K sizes b u x = slotWord K b (segmentNumber B K sizes b u x)
 
--- The place word of a node that is placed with key x, searched for from bucket `start` down, when `front` was scanned last
--- (document 01, "One-level heap").
-abbrev pub keyWord : (B K : ℕ) → (sizes u : List ℕ) → (front x start : ℕ) → ℕ
-keyWord B K sizes u front x start = cond (eqb x front) 1 (bucketWord B K sizes u (bucketFrom u x start) x)
+-- The place word of a node that is placed with key x in bucket b, which is the one that its search has found, by the bounds u, when `front`
+-- was scanned last (document 01, "One-level heap").
+abbrev pub keyWord : (B K : ℕ) → (sizes u : List ℕ) → (front x b : ℕ) → ℕ
+keyWord B K sizes u front x b = cond (eqb x front) 1 (bucketWord B K sizes b (bound u b) x)
 
 -- Segment k of bucket b is one of those that B buckets of K segments have, the last bucket having one (document 01, "Two-level
 -- heap").
@@ -35,9 +35,8 @@ pub record SlotFits (B K b k : ℕ) : Type 0 where
   pub high : k ≤ K
   pub whole : b ≡ B → k ≡ 1
 
--- A key x can be placed from bucket `start` on: it is the current one, or the segment where it belongs is one of those that
--- there are (document 01, "One-level heap").
-pub record Enters (B K : ℕ) (sizes u : List ℕ) (front x start : ℕ) : Type 0 where
-  pub within : start ≤ B
-  pub fits : x ≢ front → SlotFits B K (bucketFrom u x start) (segmentNumber B K sizes (bucketFrom u x start) (bound u (bucketFrom u x start)) x)
-  pub under : x ≢ front → x ≤ bound u (bucketFrom u x start)
+-- A key x can be placed in bucket b: it is the current one, or the segment where it belongs is one of those that there are (document 01,
+-- "One-level heap").
+pub record Enters (B K : ℕ) (sizes u : List ℕ) (front x b : ℕ) : Type 0 where
+  pub fits : x ≢ front → SlotFits B K b (segmentNumber B K sizes b (bound u b) x)
+  pub under : x ≢ front → x ≤ bound u b

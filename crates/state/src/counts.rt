@@ -31,3 +31,10 @@ pub fn count_looks(tally: &mut Tally, looks: u32)
 {
     tally.looks = tally.looks + looks;
 }
+
+pub fn count_reads(tally: &mut Tally, reads: u32)
+    requires { ⌜ now tally .reads + reads < 4294967296 ⌝ }
+    ensures { λ _. ⌜ now (tally .exit) ≡ afterEvent (Event.reads reads) (now (tally .entry)) ⌝ }
+{
+    tally.reads = tally.reads + reads;
+}

@@ -8,6 +8,7 @@ mod counts;
 use counts::count_decrease;
 use counts::count_insertion;
 use counts::count_looks;
+use counts::count_reads;
 use counts::count_shift;
 
 // n, B, the segments of a bucket below the last (1 for one level), and the segments of all buckets.
@@ -18,12 +19,14 @@ pub struct Layout {
     pub slots: usize,
 }
 
-// The four counts of a run (document 01, "The tallies").
+// The counts of a run (document 01, "The tallies"; document 02, paper 3: reads). In this order the compiler keeps them out of memory: of the
+// orders tried it is the fastest (docs/DECISIONS.md).
 pub struct Tally {
-    pub insertions: u32,
-    pub decreases: u32,
-    pub shifts: u32,
     pub looks: u32,
+    pub shifts: u32,
+    pub insertions: u32,
+    pub reads: u32,
+    pub decreases: u32,
 }
 
 // The distance scanned last, how many labelled nodes have it, how many nodes are scanned, and the tallies.
@@ -69,6 +72,15 @@ impl Tally {
     {
         let mut tally = self;
         count_looks(&mut tally, looks);
+        tally
+    }
+
+    pub fn read(self, reads: u32) -> Tally
+        requires { ⌜ self .reads + reads < 4294967296 ⌝ }
+        ensures { λ r. ⌜ r ≡ afterEvent (Event.reads reads) self ⌝ }
+    {
+        let mut tally = self;
+        count_reads(&mut tally, reads);
         tally
     }
 }

@@ -94,16 +94,27 @@ pub fn first_bounds(heap: Heap, table: &mut Table) {
     set_bound(table, last, heap.top);
 }
 
-// i + 1 for the largest i from `start` down with u(i) below the key, or 1 if there is none.
-pub fn bucket_of(table: &Table, start: u64, key: u64) -> u64 {
+// The bucket of a key, and the bounds that the search for it has read (document 02, paper 3).
+pub struct Found {
+    pub bucket: u64,
+    pub reads: u64,
+}
+
+// i + 1 for the largest i from `start` down with u(i) below the key, or 1 if there is none. Each bound that is compared is read.
+pub fn search(table: &Table, start: u64, key: u64) -> Found {
+    let mut reads = 0;
     let mut i = start;
     while i > 0 {
+        reads = words::sum(reads, 1);
         if bound(table, i) < key {
-            return words::sum(i, 1);
+            return Found {
+                bucket: words::sum(i, 1),
+                reads,
+            };
         }
         i -= 1;
     }
-    1
+    Found { bucket: 1, reads }
 }
 
 // The segment of a key in bucket i, counted from the top of its range.

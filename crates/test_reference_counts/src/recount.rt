@@ -1,5 +1,5 @@
 // The steps of both heaps and their counts, taken literally: each question is a loop over all nodes (document 01, "The tallies", with the
-// holds of document 02, paper 2).
+// holds of document 02, paper 2, and the bounds read of its paper 3).
 use crate::heap;
 use crate::heap::Heap;
 use test_reference_map::case::Case;
@@ -19,9 +19,11 @@ const SHIFTS: u64 = 2;
 
 const LOOKS: u64 = 3;
 
-const HIGHEST: u64 = 4;
+const READS: u64 = 4;
 
-const COUNTS: u64 = 5;
+const HIGHEST: u64 = 5;
+
+const COUNTS: u64 = 6;
 
 fn count(table: &Table, which: u64) -> u64 {
     nodes::get(table, nodes::COUNT, which)
@@ -82,12 +84,18 @@ fn stands_in(heap: Heap, table: &Table, v: u64, j: u64, k: u64) -> bool {
     segment_of(heap, table, v) == k
 }
 
+// A node is put in the bucket of its key, the search for which starts at a bucket, and what this counts as.
+fn place(table: &mut Table, v: u64, start: u64, which: u64) {
+    let found = heap::search(table, start, key_of(table, v));
+    nodes::set(table, nodes::BUCKET, v, found.bucket);
+    tally(table, READS, found.reads);
+    tally(table, which, 1);
+}
+
 // A node that stands in segment k of bucket j goes to its new place.
 fn shift(heap: Heap, table: &mut Table, v: u64, j: u64, k: u64) {
     if stands_in(heap, table, v, j, k) {
-        let bucket = heap::bucket_of(table, j, key_of(table, v));
-        nodes::set(table, nodes::BUCKET, v, bucket);
-        tally(table, SHIFTS, 1);
+        place(table, v, j, SHIFTS);
     }
 }
 
@@ -138,25 +146,18 @@ fn remove(heap: Heap, n: u64, table: &mut Table) -> u64 {
     v
 }
 
-// A node's new key and bucket, the search for which starts at a bucket, and what this counts as.
-fn place(table: &mut Table, v: u64, key: u64, start: u64, which: u64) {
-    let bucket = heap::bucket_of(table, start, key);
-    nodes::set(table, nodes::STEP_DISTANCE, v, key);
-    nodes::set(table, nodes::BUCKET, v, bucket);
-    tally(table, which, 1);
-}
-
 // Node v with its distance over an arc: inserted, decreased from its present bucket, or left. The mark for none is above every distance.
 fn label(heap: Heap, table: &mut Table, v: u64, key: u64, arc: u64) {
     let before = key_of(table, v);
     if key >= before {
         return;
     }
+    nodes::set(table, nodes::STEP_DISTANCE, v, key);
     nodes::set(table, nodes::STEP_PARENT, v, arc);
     if before == nodes::NONE {
-        place(table, v, key, heap.buckets, INSERTIONS);
+        place(table, v, heap.buckets, INSERTIONS);
     } else {
-        place(table, v, key, bucket_of(table, v), DECREASES);
+        place(table, v, bucket_of(table, v), DECREASES);
     }
 }
 
@@ -223,6 +224,7 @@ pub fn run(levels: u32, case: Case, lists: &Lists, table: &mut Table) -> Counts 
         decreases: count(table, DECREASES),
         placements: placements(table),
         looks: count(table, LOOKS),
+        reads: count(table, READS),
         highest: count(table, HIGHEST),
     }
 }

@@ -189,15 +189,15 @@ fn print_sizes(output: &mut Text, header: Header, counts: Counts) -> u64 {
     printing::line(output, 0, 0, numbers)
 }
 
-// The line of a heap, behind its word: B, placements and looks.
+// The line of a heap, behind its word: B, placements, looks and reads, the last by document 02, paper 3.
 fn print_counts(output: &mut Text, at: u64, counts: Counts) -> u64 {
     let numbers = Numbers {
-        count: 4,
+        count: 5,
         first: 0,
         second: counts.buckets,
         third: counts.placements,
         fourth: counts.looks,
-        fifth: 0,
+        fifth: counts.reads,
     };
     printing::line(output, at, 1, numbers)
 }

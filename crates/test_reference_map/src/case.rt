@@ -22,5 +22,6 @@ pub struct Counts {
     pub decreases: u64,
     pub placements: u64,
     pub looks: u64,
+    pub reads: u64,
     pub highest: u64,
 }

@@ -1,7 +1,8 @@
 // How near to the bounds of docs/DATASHEET.md the counts of a run come, on maps built to be bad: nodes that fall through every bucket, arcs
 // that are all decreases, removals that look at every bucket or at every segment. No node has a hold, which would come in as a cost does
-// (document 02, paper 2). A line for each map and heap: r, m, B and the segments looked at, then for decreases, placements and looks the
-// count, its bound, and how many thousandths of the bound it is.
+// (document 02, paper 2). A line for each map and heap: r, m, B and the segments looked at, then for decreases, placements, looks and reads
+// the count, its bound, and how many thousandths of the bound it is.
+use model::Counts;
 use model::Node;
 use model::RunAnswer;
 
@@ -43,25 +44,23 @@ fn print_share(count: u32, most: u64) {
     }
 }
 
-// The counts of an accepted run beside m - r + 1, r × B + m - r + 1 and r × (B + segments).
-fn print_shares(
-    arcs: u64,
-    segments: u32,
-    reached: u32,
-    buckets: u32,
-    decreases: u32,
-    placements: u32,
-    looks: u32,
-) {
+// The counts of an accepted run beside m - r + 1, r × B + m - r + 1, r × (B + segments) and r × (B - 1) + 2 × placements, the last by
+// document 02, paper 3.
+fn print_shares(arcs: u64, segments: u32, reached: u32, buckets: u32, counts: Counts) {
     let spare = minus(plus(arcs, 1), wide(reached));
     print_number(wide(reached));
     print_number(arcs);
     print_number(wide(buckets));
     print_number(wide(segments));
-    print_share(decreases, spare);
+    print_share(counts.decreases, spare);
     let held = times(wide(reached), wide(buckets));
-    print_share(placements, plus(held, spare));
-    print_share(looks, plus(held, times(wide(reached), wide(segments))));
+    print_share(counts.placements, plus(held, spare));
+    print_share(
+        counts.looks,
+        plus(held, times(wide(reached), wide(segments))),
+    );
+    let twice = times(2, wide(counts.placements));
+    print_share(counts.reads, plus(minus(held, wide(reached)), twice));
 }
 
 fn print_run(name: &[u8], heap: &[u8], arcs: u64, segments: u32, answer: RunAnswer) {
@@ -72,15 +71,7 @@ fn print_run(name: &[u8], heap: &[u8], arcs: u64, segments: u32, answer: RunAnsw
             reached,
             buckets,
             counts,
-        } => print_shares(
-            arcs,
-            segments,
-            reached,
-            buckets,
-            counts.decreases,
-            counts.placements,
-            counts.looks,
-        ),
+        } => print_shares(arcs, segments, reached, buckets, counts),
         RunAnswer::Refused { number, place } => {
             print_number(wide(number));
             print_number(place as u64);
@@ -361,7 +352,7 @@ fn main() {
     io::write_all(1, b"map,heap,r,m,B,segments");
     io::write_all(
         1,
-        b",decreases,bound,share,placements,bound,share,looks,bound,share\n",
+        b",decreases,bound,share,placements,bound,share,looks,bound,share,reads,bound,share\n",
     );
     fall_by_halves();
     fall_by_segments();

@@ -98,7 +98,10 @@ fn differing_numbers(reached: u32, buckets: u32, counts: Counts, expected: Expec
         lists::differ(counts.decreases as u64, expected.decreases),
         lists::differ(counts.placements as u64, expected.placements),
     );
-    let examined = lists::differ(counts.looks as u64, expected.looks);
+    let examined = words::sum(
+        lists::differ(counts.looks as u64, expected.looks),
+        lists::differ(counts.reads as u64, expected.reads),
+    );
     words::sum(size, words::sum(moves, examined))
 }
 

@@ -20,6 +20,7 @@ pub struct Expected {
     pub decreases: u64,
     pub placements: u64,
     pub looks: u64,
+    pub reads: u64,
     pub highest: u64,
     pub differing: u64,
 }
@@ -54,6 +55,7 @@ fn refused(number: u64, place: u64) -> Expected {
         decreases: 0,
         placements: 0,
         looks: 0,
+        reads: 0,
         highest: 0,
         differing: 0,
     }
@@ -78,6 +80,7 @@ pub fn run(levels: u32, case: Case, lists: &Lists, table: &mut Table) -> Expecte
         decreases: counts.decreases,
         placements: counts.placements,
         looks: counts.looks,
+        reads: counts.reads,
         highest: counts.highest,
         differing: all_differing(n, reached, table),
     }

@@ -17,7 +17,7 @@ use Rattle.theory.proofs.Search.Cheapest.{search-cheapest}
 use Rattle.theory.proofs.Search.Counts.{search-counted}
 use Rattle.theory.proofs.Search.First.{search-first}
 use Rattle.theory.specs.Lawful.{Lawful}
-use Rattle.theory.proofs.Heap.Run.{heap-search, heap-ends, heap-looks, heap-placed}
+use Rattle.theory.proofs.Heap.Run.{heap-search, heap-ends, heap-looks, heap-reads, heap-placed}
 use Rattle.theory.proofs.Shapes.OneLevel.{lawful-one}
 use Rattle.theory.proofs.Shapes.TwoLevel.{lawful-two}
 use Rattle.theory.proofs.Maps.Arcs.{map-admissible}
@@ -77,6 +77,7 @@ module _ {M : Map} {C source : ℕ} (valid : Valid M C source) where
         let i : heap N sh .search .insertions ≡ length (heap N sh .search .roster) = rw same (c .insertions) in
         let placed = heap-placed A law fits in
         let looked = heap-looks A law fits in
+        let read = rw i at (heap-reads A law fits) in
         record {
           cheapest = rw same (paths-routes _ _ (search-cheapest A));
           counts = record {
@@ -87,7 +88,8 @@ module _ {M : Map} {C source : ℕ} (valid : Valid M C source) where
             sum = omega (arith, i);
             placed = placed;
             looked = looked;
-            operated = omega (arith, placed, looked);
+            read = omega (arith, read, i);
+            operated = omega (arith, placed, looked, read, i);
           };
         }
 
@@ -172,12 +174,12 @@ pub two-level-demanded : {I : Inputs} {K : ℕ} → ValidInputs I → 2 ≤ K
     → Demanded (I .map) (I .source) (twoLevelBuckets (I .ceiling) K) (twoLevelBuckets (I .ceiling) K + K) (stepsOf (two K) I)
 two-level-demanded {K = K} valid s = run-demanded valid (two K) s
 
--- The heap operations of both, in document 01's B and K: at most 2 r B + m - r + 1 and r (2 B + K) + m - r + 1.
+-- The heap operations of both, in document 01's B and K: at most r (5 B - 4) + 3 m + 3 and r (5 B + K - 4) + 3 m + 3.
 module _ {I : Inputs} (valid : ValidInputs I) where
-  pub one-level-operations : operations (stepsOf one I) + length (stepsOf one I .search .roster)
-      ≤ 2 * (length (stepsOf one I .search .roster) * oneLevelBuckets (I .ceiling)) + arcs (I .map) + 1
+  pub one-level-operations : operations (stepsOf one I) + 4 * length (stepsOf one I .search .roster)
+      ≤ 5 * (length (stepsOf one I .search .roster) * oneLevelBuckets (I .ceiling)) + 3 * arcs (I .map) + 3
   one-level-operations = omega (arith, one-level-demanded valid .counts .operated)
 
-  pub two-level-operations : {K : ℕ} → 2 ≤ K → operations (stepsOf (two K) I) + length (stepsOf (two K) I .search .roster)
-      ≤ length (stepsOf (two K) I .search .roster) * (2 * twoLevelBuckets (I .ceiling) K + K) + arcs (I .map) + 1
+  pub two-level-operations : {K : ℕ} → 2 ≤ K → operations (stepsOf (two K) I) + 4 * length (stepsOf (two K) I .search .roster)
+      ≤ length (stepsOf (two K) I .search .roster) * (5 * twoLevelBuckets (I .ceiling) K + K) + 3 * arcs (I .map) + 3
   two-level-operations s = omega (arith, two-level-demanded valid s .counts .operated)

@@ -1,5 +1,5 @@
 -- Laws of `sumBelow` and `listBelow`.
-use Prim.Native.Nat.{ℕ, zero, suc, _+_, _≤_, _<_}
+use Prim.Native.Nat.{ℕ, zero, suc, _+_, _*_, _≤_, _<_}
 use native.Mathlib.Omega.{arith}
 use mathlib.Core.Path.{_≡_, refl, _∙_}
 use mathlib.Core.Logic.{_≢_, inl, inr}
@@ -21,6 +21,10 @@ pub sum-add : (n : ℕ) (f g : ℕ → ℕ) → sumBelow n (λ w. f w + g w) ≡
 sum-add zero f g = refl
 sum-add (suc n) f g = omega (arith, sum-add n f g)
 
+pub sum-twice : (n : ℕ) (f : ℕ → ℕ) → sumBelow n (λ w. 2 * f w) ≡ 2 * sumBelow n f
+sum-twice zero f = refl
+sum-twice (suc n) f = omega (arith, sum-twice n f)
+
 pub sum-zero : (n : ℕ) (f : ℕ → ℕ) → ((w : ℕ) → w < n → f w ≡ 0) → sumBelow n f ≡ 0
 sum-zero zero f h = refl
 sum-zero (suc n) f h = omega (arith, sum-zero n f (λ w l. h w (omega arith)), h n (omega arith))
@@ -28,6 +32,10 @@ sum-zero (suc n) f h = omega (arith, sum-zero n f (λ w l. h w (omega arith)), h
 pub sum-ones : (n : ℕ) → sumBelow n (λ w. 1) ≡ n
 sum-ones zero = refl
 sum-ones (suc n) = omega (arith, sum-ones n)
+
+pub sum-most : (n c : ℕ) (f : ℕ → ℕ) → ((w : ℕ) → w < n → f w ≤ c) → sumBelow n f ≤ n * c
+sum-most zero c f h = omega arith
+sum-most (suc n) c f h = omega (arith, sum-most n c f (λ w l. h w (omega arith)), h n (omega arith))
 
 pub sum-at : (n v : ℕ) (f : ℕ → ℕ) → v < n → f v ≤ sumBelow n f
 sum-at zero v f h = absurd (omega arith)

@@ -59,18 +59,19 @@ pub record Roster (IsReached : ℕ → Type 0) (distances roster : List ℕ) : T
   pub farthest : ℕ
   pub rising : Rising distances 0 roster farthest
 
--- The heap operations of the steps h: placements and looks (demand 3; document 01, "The tallies").
+-- The heap operations of the steps h: placements, looks and reads (demand 3; document 01, "The tallies"; document 02, paper 3).
 abbrev pub operations : Heap → ℕ
-operations h = placements h + h .looks
+operations h = placements h + h .looks + h .reads
 
 -- A number of heap operations is within demand 3's bound for r reached nodes of m arcs, with B buckets and at most L looks to a removal:
--- r × (B + L) + m - r + 1 (document 01, "The tallies").
+-- r × (4 B + L) + 3 m - 4 r + 3 (document 01, "The tallies"; document 02, paper 3).
 abbrev pub OperationsBounded : (number r m B L : ℕ) → Type 0
-OperationsBounded number r m B L = number + r ≤ r * (B + L) + m + 1
+OperationsBounded number r m B L = number + 4 * r ≤ r * (4 * B + L) + 3 * m + 3
 
 -- Demand 3, of the steps h of a run by a heap of B buckets in which a removal makes at most L looks. With r the number of
 -- reached nodes: decreases ≤ m - r + 1 and placements = r + decreases + shifts ≤ r × B + m - r + 1, where a difference stands as
--- a sum on the other side, since a difference of natural numbers stops at 0; looks ≤ r × L; all heap operations together.
+-- a sum on the other side, since a difference of natural numbers stops at 0; looks ≤ r × L; reads ≤ r × (B - 1) + 2 × placements
+-- (document 02, paper 3); all heap operations together.
 pub record BoundedCounts (M : Map) (source B L : ℕ) (h : Heap) : Type 0 where
   pub roster : Roster (Reached M source) (h .search .distances) (h .search .roster)
   pub few : length (h .search .roster) ≤ M .nodes
@@ -79,6 +80,7 @@ pub record BoundedCounts (M : Map) (source B L : ℕ) (h : Heap) : Type 0 where
   pub sum : placements h ≡ length (h .search .roster) + h .search .decreases + h .shifts
   pub placed : placements h + length (h .search .roster) ≤ length (h .search .roster) * B + arcs M + 1
   pub looked : h .looks ≤ length (h .search .roster) * L
+  pub read : h .reads + length (h .search .roster) ≤ length (h .search .roster) * B + 2 * placements h
   pub operated : OperationsBounded (operations h) (length (h .search .roster)) (arcs M) B L
 
 -- Demands 2 and 3 together, of the steps h of a run.

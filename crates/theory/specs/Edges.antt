@@ -15,12 +15,12 @@ pub data Question : Type 0 where
 -- What is answered: B, or what is given back of a run (document 01, "What the planner holds and leaves out").
 pub data Answer : Type 0 where
   buckets : (B : ℕ) → Answer
-  run : (r decreases B placements looks : ℕ) → (distances parents : List ℕ) → Answer
+  run : (r decreases B placements looks reads : ℕ) → (distances parents : List ℕ) → Answer
 
 -- What a run gives back of its steps, for a heap of B buckets (document 01, "What the planner holds and leaves out").
 abbrev pub given : (B : ℕ) → Heap → Answer
 given B h =
-    run (length (h .search .roster)) (h .search .decreases) B (placements h) (h .looks) (h .search .distances) (h .search .parents)
+    run (length (h .search .roster)) (h .search .decreases) B (placements h) (h .looks) (h .reads) (h .search .distances) (h .search .parents)
 
 -- What the definitions answer.
 unfoldable pub answerTo : Question → Answer
@@ -93,17 +93,17 @@ edges =
     ∷ buckets-of (two 3) 9 gives buckets 4
     ∷ buckets-of (two 16) 1048575 gives buckets 6
     ∷ buckets-of (two 64) 1048575 gives buckets 5
-    ∷ run-of one listing 9 0 gives run 4 2 6 7 9 (0 ∷ 6 ∷ 4 ∷ 6 ∷ none ∷ []) (none ∷ 5 ∷ 1 ∷ 2 ∷ none ∷ [])
-    ∷ run-of (two 3) listing 9 0 gives run 4 2 4 7 11 (0 ∷ 6 ∷ 4 ∷ 6 ∷ none ∷ []) (none ∷ 5 ∷ 1 ∷ 2 ∷ none ∷ [])
-    ∷ run-of one oneNode 0 0 gives run 1 0 2 1 1 (0 ∷ []) (none ∷ [])
-    ∷ run-of (two 2) oneNode 0 0 gives run 1 0 2 1 2 (0 ∷ []) (none ∷ [])
-    ∷ run-of one zeroPair 0 0 gives run 2 0 2 2 2 (0 ∷ 0 ∷ []) (none ∷ 0 ∷ [])
-    ∷ run-of (two 2) zeroPair 0 0 gives run 2 0 2 2 4 (0 ∷ 0 ∷ []) (none ∷ 0 ∷ [])
-    ∷ run-of one highChain 4 0 gives run 3 0 5 3 10 (0 ∷ 4 ∷ 8 ∷ []) (none ∷ 0 ∷ 1 ∷ [])
-    ∷ run-of (two 2) lowChain 1 0 gives run 3 0 2 3 8 (0 ∷ 1 ∷ 2 ∷ []) (none ∷ 0 ∷ 1 ∷ [])
-    ∷ run-of (two 64) oneArc 1 0 gives run 2 0 2 2 125 (0 ∷ 1 ∷ []) (none ∷ 0 ∷ [])
-    ∷ run-of one heldListing 9 0 gives run 4 1 6 6 13 (0 ∷ 8 ∷ 4 ∷ 6 ∷ none ∷ []) (none ∷ 5 ∷ 1 ∷ 2 ∷ none ∷ [])
-    ∷ run-of (two 3) heldListing 9 0 gives run 4 1 4 5 13 (0 ∷ 8 ∷ 4 ∷ 6 ∷ none ∷ []) (none ∷ 5 ∷ 1 ∷ 2 ∷ none ∷ [])
-    ∷ run-of one heldSource 9 0 gives run 3 0 6 3 6 (0 ∷ 0 ∷ 4 ∷ []) (none ∷ 0 ∷ 1 ∷ [])
-    ∷ run-of (two 2) heldSource 9 0 gives run 3 0 5 3 8 (0 ∷ 0 ∷ 4 ∷ []) (none ∷ 0 ∷ 1 ∷ [])
+    ∷ run-of one listing 9 0 gives run 4 2 6 7 9 27 (0 ∷ 6 ∷ 4 ∷ 6 ∷ none ∷ []) (none ∷ 5 ∷ 1 ∷ 2 ∷ none ∷ [])
+    ∷ run-of (two 3) listing 9 0 gives run 4 2 4 7 11 21 (0 ∷ 6 ∷ 4 ∷ 6 ∷ none ∷ []) (none ∷ 5 ∷ 1 ∷ 2 ∷ none ∷ [])
+    ∷ run-of one oneNode 0 0 gives run 1 0 2 1 1 2 (0 ∷ []) (none ∷ [])
+    ∷ run-of (two 2) oneNode 0 0 gives run 1 0 2 1 2 2 (0 ∷ []) (none ∷ [])
+    ∷ run-of one zeroPair 0 0 gives run 2 0 2 2 2 4 (0 ∷ 0 ∷ []) (none ∷ 0 ∷ [])
+    ∷ run-of (two 2) zeroPair 0 0 gives run 2 0 2 2 4 4 (0 ∷ 0 ∷ []) (none ∷ 0 ∷ [])
+    ∷ run-of one highChain 4 0 gives run 3 0 5 3 10 10 (0 ∷ 4 ∷ 8 ∷ []) (none ∷ 0 ∷ 1 ∷ [])
+    ∷ run-of (two 2) lowChain 1 0 gives run 3 0 2 3 8 6 (0 ∷ 1 ∷ 2 ∷ []) (none ∷ 0 ∷ 1 ∷ [])
+    ∷ run-of (two 64) oneArc 1 0 gives run 2 0 2 2 125 4 (0 ∷ 1 ∷ []) (none ∷ 0 ∷ [])
+    ∷ run-of one heldListing 9 0 gives run 4 1 6 6 13 22 (0 ∷ 8 ∷ 4 ∷ 6 ∷ none ∷ []) (none ∷ 5 ∷ 1 ∷ 2 ∷ none ∷ [])
+    ∷ run-of (two 3) heldListing 9 0 gives run 4 1 4 5 13 18 (0 ∷ 8 ∷ 4 ∷ 6 ∷ none ∷ []) (none ∷ 5 ∷ 1 ∷ 2 ∷ none ∷ [])
+    ∷ run-of one heldSource 9 0 gives run 3 0 6 3 6 16 (0 ∷ 0 ∷ 4 ∷ []) (none ∷ 0 ∷ 1 ∷ [])
+    ∷ run-of (two 2) heldSource 9 0 gives run 3 0 5 3 8 15 (0 ∷ 0 ∷ 4 ∷ []) (none ∷ 0 ∷ 1 ∷ [])
     ∷ []

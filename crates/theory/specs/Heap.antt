@@ -1,6 +1,6 @@
 -- The steps of a radix heap (document 01, "One-level heap", "Two-level heap" and "The tallies"): the search beside the bucket of
 -- each labelled node, the bounds, the shifts and the looks. One definition serves both heaps; a shape says which.
-use Prim.Native.Nat.{ℕ, zero, suc, _+_, _-_, min}
+use Prim.Native.Nat.{ℕ, zero, suc, _+_, _-_, _*_, min}
 use mathlib.Core.Bool.{Bool, true, false, cond, not, _&&_}
 use mathlib.Core.List.{List, [], _∷_}
 use lib.ListN.{length, getD, set, replicate}
@@ -20,6 +20,8 @@ pub record Heap : Type 0 where
   pub bounds : List ℕ
   pub shifts : ℕ
   pub looks : ℕ
+  -- bounds read in the searches for buckets (document 02, paper 3)
+  pub reads : ℕ
 
 -- The bound u(i) (document 01, "One-level heap").
 abbrev pub bound : List ℕ → ℕ → ℕ
@@ -43,6 +45,12 @@ unfoldable pub bucketFrom : (u : List ℕ) → (x i : ℕ) → ℕ
 bucketFrom u x zero = 1
 bucketFrom u x (suc i) = cond (ltb (bound u (suc i)) x) (suc (suc i)) (bucketFrom u x i)
 
+-- The bounds that this search reads: from u(i) down to the first that is below x, which is included, and none below u(1) (document
+-- 02, paper 3).
+unfoldable pub readsFrom : (u : List ℕ) → (x i : ℕ) → ℕ
+readsFrom u x zero = 0
+readsFrom u x (suc i) = suc (cond (ltb (bound u (suc i)) x) 0 (readsFrom u x i))
+
 -- The bucket at which the search for a node's bucket starts: B for an insertion, the present one b for a decrease (document
 -- 01, "One-level heap"). A scanned node is never placed: `improves-open` of Search.Relaxing.
 abbrev pub searchStart : Shape → Mark → (b : ℕ) → ℕ
@@ -54,6 +62,10 @@ searchStart sh scanned b = b
 abbrev pub bucketFor : Shape → (v x : ℕ) → Heap → ℕ
 bucketFor sh v x h = bucketFrom (h .bounds) x (searchStart sh (mark (h .search) v) (bucketOf h v))
 
+-- The bounds that the search for the bucket of node v with key x reads (document 02, paper 3).
+abbrev pub readsFor : Shape → (v x : ℕ) → Heap → ℕ
+readsFor sh v x h = readsFrom (h .bounds) x (searchStart sh (mark (h .search) v) (bucketOf h v))
+
 -- Node v gets distance x and parent arc a, and is put in its bucket: an insertion or a decrease (document 01, "The tallies").
 unfoldable pub heapLabel : Shape → (v x a : ℕ) → Heap → Heap
 heapLabel sh v x a h = record {
@@ -62,6 +74,7 @@ heapLabel sh v x a h = record {
   bounds = h .bounds;
   shifts = h .shifts;
   looks = h .looks;
+  reads = h .reads + readsFor sh v x h;
 }
 
 -- One link of a node at distance d is taken (document 01, "The search").
@@ -146,6 +159,11 @@ move sh u′ j k w h v =
     moveMarked (mark (h .search) v) (shifts? j k w v (bucketOf h v) (segmentOf sh h v)) (bucketOf h v)
     (bucketFrom u′ (keyOf h v) (bucketOf h v))
 
+-- The bounds that the removal reads for node v: those of its search if it is shifted, from its present bucket down by the new bounds,
+-- and none if it stays (document 02, paper 3).
+abbrev pub movedReads : Shape → (u′ : List ℕ) → (j k w : ℕ) → Heap → (v : ℕ) → ℕ
+movedReads sh u′ j k w h v = move sh u′ j k w h v .shifts * readsFrom u′ (keyOf h v) (bucketOf h v)
+
 -- The removal of node w, with the smallest key d, from segment k of bucket j, its new bounds and shifts included; looks are
 -- made at the buckets 1 to j and at segments as the shape says. A look is document 01's own term (document 01, "The tallies").
 unfoldable pub heapRemove : Shape → (j k d w : ℕ) → Heap → Heap
@@ -158,6 +176,7 @@ heapRemove sh j k d w h =
       bounds = u′;
       shifts = h .shifts + sumBelow n (λ v. move sh u′ j k w h v .shifts);
       looks = h .looks + (j + sh .looks k);
+      reads = h .reads + sumBelow n (λ v. movedReads sh u′ j k w h v);
     }
 
 -- A removal is done before the arcs of the node removed are taken (document 01, "The tallies").
@@ -182,7 +201,7 @@ firstBounds sh = 0 ∷ boundsFrom (sh .size) (sh .top) 1 0 (sh .buckets - 1)
 
 -- At first every node is unlabelled, and each count is 0 (document 01, "The tallies").
 unfoldable pub heapBlank : Network → Shape → Heap
-heapBlank N sh = record { search = blank N; buckets = replicate (N .nodes) 0; bounds = firstBounds sh; shifts = 0; looks = 0 }
+heapBlank N sh = record { search = blank N; buckets = replicate (N .nodes) 0; bounds = firstBounds sh; shifts = 0; looks = 0; reads = 0 }
 
 -- The source is inserted with distance 0 (document 01, "The search").
 unfoldable pub heapStart : Network → Shape → Heap

@@ -11,7 +11,7 @@ use Rattle.theory.specs.Maps.{none}
 use Rattle.theory.specs.Network.{Link, Network}
 use Rattle.theory.specs.Shape.{Shape}
 use Rattle.theory.specs.Search.{Mark, unlabelled, labelled, scanned, Search, mark, distance, parent, below}
-use Rattle.theory.specs.Heap.{Heap, bound, bucketOf, keyOf, boundsAfter}
+use Rattle.theory.specs.Heap.{Heap, bound, bucketOf, keyOf, placements, boundsAfter}
 use Rattle.theory.specs.Demands.{Distinct, Rising}
 
 -- ---- the search
@@ -161,10 +161,11 @@ weightOf h v = weight (mark (h .search) v) (bucketOf h v)
 abbrev pub potential : Network → Heap → ℕ
 potential N h = sumBelow (N .nodes) (weightOf h)
 
--- Shifts and looks so far, with the potential, are within their bounds (demand 3).
+-- Shifts, looks and reads so far, with the potential, are within their bounds (demand 3).
 pub record Counted (N : Network) (sh : Shape) (S : ℕ) (h : Heap) : Type 0 where
   pub shifts : potential N h + h .shifts + h .search .insertions ≤ h .search .insertions * sh .buckets
   pub looks : h .looks ≤ length (h .search .roster) * (sh .buckets + S)
+  pub reads : potential N h + h .reads + h .search .insertions ≤ h .search .insertions * sh .buckets + 2 * placements h
 
 -- A heap between two removals, when the last node scanned had distance `last` (document 01, "The tallies").
 pub record Resting (N : Network) (sh : Shape) (C S last : ℕ) (h : Heap) : Type 0 where

@@ -11,4 +11,17 @@ returns-2 : tie.Need-returns-2
 returns-2 c = let told : tie.After-answer2 = search needs in rw (told .answer2 .given .1) refl
 
 pub run-words-spec : {M : Type 1} → statement M
-run-words-spec = tie.close (tie.spec (λ c. search needs) (λ c. search needs) (λ c. search needs) (λ c. search needs) (λ c. search needs) (λ c. search needs) (λ c. search needs) (λ c. search needs) returns returns-2)
+run-words-spec =
+    tie.close
+    (tie.spec
+    (λ c. search needs)
+    (λ c. search needs)
+    (λ c. search needs)
+    (λ c. search needs)
+    (λ c. search needs)
+    (λ c. search needs)
+    (λ c. search needs)
+    (λ c. search needs)
+    (λ c. search needs)
+    returns
+    returns-2)

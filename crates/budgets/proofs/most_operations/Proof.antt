@@ -9,8 +9,10 @@ pub most-operations-spec : {M : Type 1} → statement M
 most-operations-spec =
     tie.close
     (tie.spec
+    (λ c. record { fits = omega (arith, c .pre .0 .few) })
     (λ c. record { fits = omega (arith, c .pre .0 .few, c .pre .1) })
     (λ c. omega (arith, c .pre .0 .some))
+    (λ c. record { fits = omega (arith, operations-fit (c .pre .0) (c .pre .1)) })
     (λ c. record { fits = omega (arith, operations-fit (c .pre .0) (c .pre .1)) })
     (λ c. record { fits = omega (arith, operations-fit (c .pre .0) (c .pre .1)) })
     (λ c. record { fits = omega (arith, operations-fit (c .pre .0) (c .pre .1)) })

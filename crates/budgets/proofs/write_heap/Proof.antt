@@ -16,8 +16,11 @@ reached c = search needs
 abbrev placed : tie.After-most-looks → tie.After-most-placements
 placed c = search needs
 
-abbrev looked : tie.After-most-operations → tie.After-most-looks
+abbrev looked : tie.After-most-reads → tie.After-most-looks
 looked c = search needs
+
+abbrev read : tie.After-most-operations → tie.After-most-reads
+read c = search needs
 
 abbrev operated : tie.After-write-bounds → tie.After-most-operations
 operated c = search needs
@@ -35,6 +38,10 @@ most-placements-requires c κs = let r : tie.After-most-reached = search needs i
 most-looks-requires : tie.Need-most-looks-requires
 most-looks-requires c κs = let r : tie.After-most-reached = search needs in (small r .few-nodes, start r .pre .0 .1)
 
+most-reads-requires : tie.Need-most-reads-requires
+most-reads-requires c κs =
+    let looks : tie.After-most-looks = search needs in let p = placed looks in (small (reached p), p .most-placements .ensures)
+
 most-operations-requires : tie.Need-most-operations-requires
 most-operations-requires c κs = let r : tie.After-most-reached = search needs in (small r, start r .pre .0 .1)
 
@@ -45,13 +52,14 @@ returns : tie.Need-returns
 returns c =
     let line : tie.After-write-bounds = search needs in
     let operations = operated line in
-    let looks = looked operations in
+    let reads = read operations in
+    let looks = looked reads in
     let placements = placed looks in
     let r = reached placements in
     let a = start r .args in
     writes-same
     (heap-whole (a .word .now) (a .nodes) (a .arcs) (a .buckets) (a .looks) (r .most-reached .ensures) (placements .most-placements .ensures)
-    (looks .most-looks .ensures) (operations .most-operations .ensures)) (line .write-bounds .ensures)
+    (looks .most-looks .ensures) (reads .most-reads .ensures) (operations .most-operations .ensures)) (line .write-bounds .ensures)
 
 pub write-heap-spec : {M : Type 1} → statement M
 write-heap-spec =
@@ -60,6 +68,7 @@ write-heap-spec =
     most-reached-requires
     most-placements-requires
     most-looks-requires
+    most-reads-requires
     most-operations-requires
     write-bounds-requires
     (λ c. search needs)

@@ -16,11 +16,8 @@ current c = search needs
 abbrev start : tie.Else1 → tie.Start
 start c = search needs
 
-abbrev later : tie.After-bucket-of → tie.Else1
+abbrev later : tie.After-bound-of → tie.Else1
 later c = search needs
-
-abbrev bucket : tie.After-bound-of → tie.After-bucket-of
-bucket c = search needs
 
 abbrev bound : tie.After-segment-of → tie.After-bound-of
 bound c = search needs
@@ -32,35 +29,32 @@ returns c =
     entered-current (current-start k .pre) (k .if1 .taken) (entered .enter-current .ensures)
 
 bound-of-requires : tie.Need-bound-of-requires
-bound-of-requires c κs =
-    let b : tie.After-bucket-of = search needs in
-    bucket-read (start (later b) .pre) (later b .if1 .left) (b .bucket-of .ensures)
+bound-of-requires c κs = let k : tie.Else1 = search needs in bucket-read (start k .pre) (k .if1 .left)
 
 segment-of-requires : tie.Need-segment-of-requires
 segment-of-requires c κs =
     let u : tie.After-bound-of = search needs in
-    let b = bucket u in
-    let p = start (later b) .pre in
-    let q = later b .if1 .left in
-    let f = slot-fits p q (b .bucket-of .ensures) (u .bound-of .ensures) in
-    (p .formed .sized, (f .first, (under p q (b .bucket-of .ensures) (u .bound-of .ensures), f .low)))
+    let p = start (later u) .pre in
+    let q = later u .if1 .left in
+    let f = slot-fits p q (u .bound-of .ensures) in
+    (p .formed .sized, (f .first, (under p q (u .bound-of .ensures), f .low)))
 
 -- Once the segment is found.
 module _ (c : tie.After-segment-of) where
-  abbrev b : tie.After-bucket-of
-  b = bucket (bound c)
+  abbrev k : tie.Else1
+  k = later (bound c)
 
   abbrev d : tie.Start
-  d = start (later b)
+  d = start k
 
-  slot-few : (b .bucket-of .result - 1) * d .args .layout .segments + (c .segment-of .result - 1) < 512
-  slot-few = few (d .pre) (later b .if1 .left) (b .bucket-of .ensures) (bound c .bound-of .ensures) (c .segment-of .ensures)
+  slot-few : (d .args .bucket - 1) * d .args .layout .segments + (c .segment-of .result - 1) < 512
+  slot-few = few (d .pre) (k .if1 .left) (bound c .bound-of .ensures) (c .segment-of .ensures)
 
-  bucket-low : 1 ≤ b .bucket-of .result
-  bucket-low = slot-fits (d .pre) (later b .if1 .left) (b .bucket-of .ensures) (bound c .bound-of .ensures) .first
+  bucket-low : 1 ≤ d .args .bucket
+  bucket-low = slot-fits (d .pre) (k .if1 .left) (bound c .bound-of .ensures) .first
 
   low : 1 ≤ c .segment-of .result
-  low = segment-low (d .pre) (later b .if1 .left) (b .bucket-of .ensures) (bound c .bound-of .ensures) (c .segment-of .ensures)
+  low = segment-low (d .pre) (k .if1 .left) (bound c .bound-of .ensures) (c .segment-of .ensures)
 
 sub-slot : tie.Need-sub-slot
 sub-slot c = let s : tie.After-segment-of = search needs in bucket-low s
@@ -78,11 +72,11 @@ enter-slot-requires : tie.Need-enter-slot-requires
 enter-slot-requires c κs =
     let s : tie.After-segment-of = search needs in
     let p = d s .pre in
-    let q = later (b s) .if1 .left in (
+    let q = k s .if1 .left in (
       p .frontier,
       (
         (p .node, p .unlabelled),
-        (in-slots p q (b s .bucket-of .ensures) (bound s .bound-of .ensures) (s .segment-of .ensures), in-bucket p q (b s .bucket-of .ensures) (bound s .bound-of .ensures) (s .segment-of .ensures)),
+        (in-slots p q (bound s .bound-of .ensures) (s .segment-of .ensures), in-bucket p q (bound s .bound-of .ensures) (s .segment-of .ensures)),
       ),
     )
 
@@ -93,7 +87,7 @@ returns-2 : tie.Need-returns-2
 returns-2 c =
     let entered : tie.After-enter-slot = search needs in
     let s = segment entered in
-    entered-slot (d s .pre) (later (b s) .if1 .left) (b s .bucket-of .ensures) (bound s .bound-of .ensures) (s .segment-of .ensures) (entered .enter-slot .ensures)
+    entered-slot (d s .pre) (k s .if1 .left) (bound s .bound-of .ensures) (s .segment-of .ensures) (entered .enter-slot .ensures)
 
 pub enter-spec : {M : Type 1} → statement M
 enter-spec =
@@ -102,7 +96,6 @@ enter-spec =
     (λ c κs. search needs)
     (λ c. search needs)
     returns
-    (λ c κs. search needs)
     bound-of-requires
     segment-of-requires
     sub-slot

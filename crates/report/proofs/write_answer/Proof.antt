@@ -38,7 +38,7 @@ write-heap-requires-2 c κs =
     omega (
       arith,
       counts-most (given .nodes) (given .arcs) (given .reached) (given .decreases),
-      heap-most wordOne (given .one .buckets) (given .one .placements) (given .one .looks),
+      heap-most wordOne (given .one .buckets) (given .one .placements) (given .one .looks) (given .one .reads),
       counts .write-counts .ensures .behind,
       one .write-heap .ensures .behind,
     )
@@ -53,8 +53,8 @@ write-nodes-requires c κs =
       omega (
         arith,
         counts-most (given .nodes) (given .arcs) (given .reached) (given .decreases),
-        heap-most wordOne (given .one .buckets) (given .one .placements) (given .one .looks),
-        heap-most wordTwo (given .two .buckets) (given .two .placements) (given .two .looks),
+        heap-most wordOne (given .one .buckets) (given .one .placements) (given .one .looks) (given .one .reads),
+        heap-most wordTwo (given .two .buckets) (given .two .placements) (given .two .looks) (given .two .reads),
         counts .write-counts .ensures .behind,
         one .write-heap .ensures .behind,
         two .write-heap2 .ensures .behind,
@@ -68,7 +68,7 @@ returns c =
     let nodes : tie.After-write-nodes = search needs in
     let two = two-put nodes in
     let one = one-put two in
-    writes-same (accepted-whole _ _ _ _ _ _ _ _ _ _ _ _)
+    writes-same (accepted-whole _ _ _ _ _ _ _ _ _ _ _ _ _ _)
     (writes-then (writes-then (writes-then (counts-put one .write-counts .ensures) (one .write-heap .ensures)) (two .write-heap2 .ensures))
     (nodes .write-nodes .ensures))
 

@@ -14,16 +14,19 @@ start c = search needs
 abbrev word-put : tie.After-put-field → tie.After-put-word
 word-put c = search needs
 
-abbrev buckets-put : tie.After-put-two → tie.After-put-field
+abbrev buckets-put : tie.After-put-field2 → tie.After-put-field
 buckets-put c = search needs
+
+abbrev placements-put : tie.After-put-two → tie.After-put-field2
+placements-put c = search needs
 
 put-field-requires : tie.Need-put-field-requires
 put-field-requires c κs =
     let word : tie.After-put-word = search needs in
     omega (arith, ended-length (start word .args .word .now) comma, word .put-word .ensures .behind)
 
-put-two-requires : tie.Need-put-two-requires
-put-two-requires c κs =
+put-field-requires-2 : tie.Need-put-field-requires-2
+put-field-requires-2 c κs =
     let buckets : tie.After-put-field = search needs in
     let word = word-put buckets in
     let given = start word .args in
@@ -35,11 +38,30 @@ put-two-requires c κs =
       buckets .put-field .ensures .behind,
     )
 
+put-two-requires : tie.Need-put-two-requires
+put-two-requires c κs =
+    let placements : tie.After-put-field2 = search needs in
+    let buckets = buckets-put placements in
+    let word = word-put buckets in
+    let given = start word .args in
+    omega (
+      arith,
+      ended-length (given .word .now) comma,
+      field-most (given .heap .buckets) comma,
+      field-most (given .heap .placements) comma,
+      word .put-word .ensures .behind,
+      buckets .put-field .ensures .behind,
+      placements .put-field2 .ensures .behind,
+    )
+
 returns : tie.Need-returns
 returns c =
     let two : tie.After-put-two = search needs in
-    let buckets = buckets-put two in
-    writes-same (heap-whole _ _ _ _) (writes-then (writes-then (word-put buckets .put-word .ensures) (buckets .put-field .ensures)) (two .put-two .ensures))
+    let placements = placements-put two in
+    let buckets = buckets-put placements in
+    writes-same (heap-whole _ _ _ _ _)
+    (writes-then (writes-then (writes-then (word-put buckets .put-word .ensures) (buckets .put-field .ensures)) (placements .put-field2 .ensures))
+    (two .put-two .ensures))
 
 pub write-heap-spec : {M : Type 1} → statement M
 write-heap-spec =
@@ -48,6 +70,8 @@ write-heap-spec =
     (λ c κs. search needs)
     (λ c. search needs)
     put-field-requires
+    (λ c. search needs)
+    put-field-requires-2
     (λ c. search needs)
     (λ c. search needs)
     put-two-requires

@@ -1,12 +1,15 @@
 -- `search::start` meets its contract.
 use Prim.Native.Nat.{ℕ}
+use mathlib.Core.Path.{_≡_}
 use mathlib.Core.List.{List, []}
+use lib.ListN.{getD}
+use Rattle.buckets.specs.Words.{places}
 use borrow.Author.Needs.{needs}
 use Rattle.theory.specs.Heap.{heapBlank}
 use Rattle.state.specs.Stands.{Setting}
 use Rattle.placing.specs.Placing.{lists, Labels}
 use Rattle.search.specs.Starts.{Starts}
-use Rattle.search.proofs.Blank.{blankState, bounds-in, start-labels, started}
+use Rattle.search.proofs.Blank.{blankState, bounds-in, blank-place, start-labels, started}
 use Rattle.search.proofs.start.Statement.{statement}
 use Rattle.search.proofs.start.Tie as tie
 
@@ -29,7 +32,7 @@ first-bounds-requires c κs =
     let p = before-words filled .pre in
     (bounds-in (p .starts) (filled .fill .ensures), p .setting .agrees .sized)
 
--- The lists when the source is labelled.
+-- The lists when the source is inserted.
 module _ (first-set : tie.After-first-bounds) where
   abbrev parents-filled : tie.After-fill3
   parents-filled = before-bounds first-set
@@ -51,20 +54,27 @@ module _ (first-set : tie.After-first-bounds) where
   labels S before =
       start-labels S (words-filled .fill .ensures) (first-set .first-bounds .ensures) (distances-filled .fill2 .ensures) (parents-filled .fill3 .ensures) before
 
-label-requires : tie.Need-label-requires
-label-requires c κs =
-    let b : tie.After-first-bounds = search needs in
-    let p = entry b .pre in
-    record { setting = p .setting; before = []; roster = []; heap = heapBlank (p .setting .network) (p .setting .shape); labels = labels b (p .starts) [] }
+  unlabelled : getD (places (entry .args .layout .nodes) (first-set .first-bounds .last .0)) (entry .args .source .0) 0 ≡ 0
+  unlabelled =
+      blank-place (entry .pre .starts) (words-filled .fill .ensures) (first-set .first-bounds .ensures) (distances-filled .fill2 .ensures) (parents-filled .fill3 .ensures)
+      (entry .args .source .0)
 
-abbrev before-label : tie.After-label → tie.After-first-bounds
-before-label c = search needs
+insert-requires : tie.Need-insert-requires
+insert-requires c κs =
+    let b : tie.After-first-bounds = search needs in
+    let p = entry b .pre in (
+      record { setting = p .setting; before = []; roster = []; heap = heapBlank (p .setting .network) (p .setting .shape); labels = labels b (p .starts) [] },
+      unlabelled b,
+    )
+
+abbrev before-insert : tie.After-insert → tie.After-first-bounds
+before-insert c = search needs
 
 returns : tie.Need-returns
 returns c =
-    let labelled : tie.After-label = search needs in
-    let made = labelled .label .ensures in
-    (λ X before S. rw (← (started S)) (made .0 X before before (heapBlank (X .network) (X .shape)) (labels (before-label labelled) S before)), made .1)
+    let inserted : tie.After-insert = search needs in
+    let made = inserted .insert .ensures in
+    (λ X before S. rw (← (started S)) (made .0 X before before (heapBlank (X .network) (X .shape)) (labels (before-insert inserted) S before)), made .1)
 
 pub start-spec : {M : Type 1} → statement M
 start-spec =
@@ -74,7 +84,7 @@ start-spec =
     (λ c κs. search needs)
     (λ c κs. search needs)
     first-bounds-requires
-    label-requires
+    insert-requires
     (λ c. search needs)
     (λ c. search needs)
     (λ c. search needs)

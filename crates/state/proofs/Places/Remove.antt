@@ -1,6 +1,6 @@
 -- What a removal makes of the place words: the node removed is scanned, the other nodes of its segment go where their keys belong,
 -- and no other place word changes.
-use Prim.Native.Nat.{ℕ, _+_, _≤_, _<_}
+use Prim.Native.Nat.{ℕ, _+_, _*_, _≤_, _<_}
 use native.Mathlib.Omega.{arith}
 use mathlib.Core.Path.{_≡_, refl, sym, _∙_, ap}
 use mathlib.Core.Bool.{Bool, true, false, cond}
@@ -13,7 +13,7 @@ use Rattle.theory.specs.Sums.{sumBelow}
 use Rattle.theory.specs.Network.{Network}
 use Rattle.theory.specs.Search.{Mark, unlabelled, labelled, scanned, mark, remove}
 use Rattle.theory.specs.Shape.{Shape}
-use Rattle.theory.specs.Heap.{Heap, bound, bucketOf, keyOf, bucketFrom, segmentOf, shifts?, moveMarked, moveLabelled, move, heapRemove}
+use Rattle.theory.specs.Heap.{Heap, bound, bucketOf, keyOf, bucketFrom, readsFrom, segmentOf, shifts?, moveMarked, moveLabelled, move, movedReads, heapRemove}
 use Rattle.theory.proofs.Cases.{split, same?, labelled≢scanned, labelled≢unlabelled, mark-cases}
 use Rattle.theory.proofs.Sums.{sum-same, sum-zero}
 use Rattle.theory.specs.Lawful.{Lawful}
@@ -139,6 +139,19 @@ module _ {N : Network} {sh : Shape} {C S : ℕ} (law : Lawful sh C S) {last : �
     pub removed-current : j ≡ 1 → placeOf slot sh d h′ w ≡ placeOf slot sh d h w
     removed-current one = stayed-place (λ x. omega (arith, x .bucket)) ∙ sym (place-is slot sh d h w on refl refl refl)
 
+  -- A node that is shifted leaves bucket j.
+  moved-from : (w : ℕ) (f : ℕ → ℕ) → move sh u′ j k v h w .shifts * f (bucketOf h w) ≡ move sh u′ j k v h w .shifts * f j
+  unfolding move
+  moved-from w f = go (mark (h .search) w) (shifts? j k v w (bucketOf h w) (segmentOf sh h w)) refl
+    where
+      go : (m : Mark) (t : Bool) → shifts? j k v w (bucketOf h w) (segmentOf sh h w) ≡ t
+          → moveMarked m t (bucketOf h w) (bucketFrom u′ (keyOf h w) (bucketOf h w)) .shifts * f (bucketOf h w)
+          ≡ moveMarked m t (bucketOf h w) (bucketFrom u′ (keyOf h w) (bucketOf h w)) .shifts * f j
+      go unlabelled t e = omega arith
+      go labelled true e = let s : Shifts j k v w (bucketOf h w) (segmentOf sh h w) = shifts-true e in ap (λ (b : ℕ). 1 * f b) (s .there)
+      go labelled false e = omega arith
+      go scanned t e = omega arith
+
   -- The shifts are the other nodes of the segment that is used, where j is not 1: a count of place words.
   module _ (far : (b l : ℕ) → 2 < slot b l) (one-slot : (w : ℕ) → Labelled (h .search) w → slot (bucketOf h w) (segmentOf sh h w) ≡ slot j k → (bucketOf h w ≡ j) × (segmentOf sh h w ≡ k))
       (later : (w : ℕ) → Labelled (h .search) w → keyOf h w ≢ last)
@@ -181,6 +194,16 @@ module _ {N : Network} {sh : Shape} {C S : ℕ} (law : Lawful sh C S) {last : �
         (λ e. plain-shifts w (λ q. labelled≢scanned (sym q ∙ e)) ∙ sym (not-counted 2 (omega arith)) ∙ ap (isWord (slot j k)) (sym (other w lt n ∙ place-is slot sh last h w e refl refl refl))))
         (same? w v)
 
+    -- The bounds that are read for them: each node is searched for from bucket j.
+    reads-at : 1 < j → (w : ℕ) → w < N .nodes → movedReads sh u′ j k v h w ≡ isWord (slot j k) (word w) * readsFrom u′ (keyOf h w) j
+    reads-at l w lt = moved-from w (readsFrom u′ (keyOf h w)) ∙ ap (λ (c : ℕ). c * readsFrom u′ (keyOf h w) j) (shifts-at l w lt)
+
+    pub reads-sum : 1 < j → h′ .reads ≡ h .reads + sumBelow (N .nodes) (λ w. isWord (slot j k) (word w) * readsFrom u′ (keyOf h w) j)
+    unfolding heapRemove
+    reads-sum l = ap (λ (x : ℕ). h .reads + x)
+        (ap (λ (n : ℕ). sumBelow n (λ w. movedReads sh u′ j k v h w)) (inv .buckets)
+        ∙ sum-same (N .nodes) (λ w. movedReads sh u′ j k v h w) (λ w. isWord (slot j k) (word w) * readsFrom u′ (keyOf h w) j) (reads-at l))
+
     pub shifts-sum : 1 < j → h′ .shifts ≡ h .shifts + sumBelow (N .nodes) (λ w. isWord (slot j k) (word w))
     unfolding heapRemove
     shifts-sum l = ap (λ (x : ℕ). h .shifts + x)
@@ -199,3 +222,11 @@ module _ {N : Network} {sh : Shape} {C S : ℕ} (law : Lawful sh C S) {last : �
   pub shifts-first : j ≡ 1 → h′ .shifts ≡ h .shifts
   unfolding heapRemove
   shifts-first one = omega (arith, sum-zero (length (h .buckets)) (λ w. move sh u′ j k v h w .shifts) (λ w _. first-unmoved w one))
+
+  pub reads-first : j ≡ 1 → h′ .reads ≡ h .reads
+  unfolding heapRemove
+  reads-first one = omega (
+    arith,
+    sum-zero (length (h .buckets)) (λ w. movedReads sh u′ j k v h w)
+        (λ w _. ap (λ (c : ℕ). c * readsFrom u′ (keyOf h w) (bucketOf h w)) (first-unmoved w one) ∙ omega arith),
+  )

@@ -8,7 +8,7 @@ use mathlib.Core.List.{List}
 use lib.Dec.{ltb}
 use borrow.Author.Tests.{ltb-true, ltb-false}
 use Rattle.theory.specs.Shape.{Shape}
-use Rattle.theory.specs.Heap.{bound, bucketFrom}
+use Rattle.theory.specs.Heap.{bound, bucketFrom, readsFrom}
 use Rattle.theory.proofs.Cases.{split}
 use Rattle.theory.specs.Invariants.{Bounds, Fits}
 
@@ -18,6 +18,26 @@ record Found (u : List ℕ) (x i b : ℕ) : Type 0 where
   high : b ≤ suc i
   under : b ≤ i → x ≤ bound u b
   over : (p : ℕ) → 1 ≤ p → p < b → bound u p < x
+
+-- A search reads a bound for each bucket that it falls, and two at the most besides.
+pub reads-fall : (u : List ℕ) (x i : ℕ) → readsFrom u x i + bucketFrom u x i ≤ i + 2
+unfolding readsFrom bucketFrom
+reads-fall u x zero = omega arith
+reads-fall u x (suc i) = go (ltb (bound u (suc i)) x) (reads-fall u x i)
+  where
+    go : (t : Bool) → readsFrom u x i + bucketFrom u x i ≤ i + 2 → suc (cond t 0 (readsFrom u x i)) + cond t (suc (suc i)) (bucketFrom u x i) ≤ suc i + 2
+    go true h = omega arith
+    go false h = omega arith
+
+-- The search ends at bucket 1 at the lowest.
+pub bucket-least : (u : List ℕ) (x i : ℕ) → 1 ≤ bucketFrom u x i
+unfolding bucketFrom
+bucket-least u x zero = omega arith
+bucket-least u x (suc i) = go (ltb (bound u (suc i)) x) (bucket-least u x i)
+  where
+    go : (t : Bool) → 1 ≤ bucketFrom u x i → 1 ≤ cond t (suc (suc i)) (bucketFrom u x i)
+    go true h = omega arith
+    go false h = h
 
 module _ {sh : Shape} {last : ℕ} {u : List ℕ} (B : Bounds sh last u) where
   found : (x i : ℕ) → i ≤ sh .buckets → Found u x i (bucketFrom u x i)

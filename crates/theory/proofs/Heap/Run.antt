@@ -92,6 +92,7 @@ module _ {N : Network} {sh : Shape} {C S m : ℕ} (A : Admissible N C m) (law : 
   blank-counted = record {
     shifts = omega (arith, sum-zero (N .nodes) (weightOf (heapBlank N sh)) (λ v _. rw (blank-mark N v)));
     looks = omega arith;
+    reads = omega (arith, sum-zero (N .nodes) (weightOf (heapBlank N sh)) (λ v _. rw (blank-mark N v)));
   }
 
   pub source-labelling : Labelling N sh (heapBlank N sh) (N .source) 0
@@ -159,6 +160,10 @@ module _ {N : Network} {sh : Shape} {C S m : ℕ} (A : Admissible N C m) (law : 
 
   pub heap-looks : heap N sh .looks ≤ length (heap N sh .search .roster) * (sh .buckets + S)
   heap-looks = heap-follows .resting .counted .looks
+
+  -- Bounds read are at most B - 1 for each insertion, and two for each placement besides.
+  pub heap-reads : heap N sh .reads + heap N sh .search .insertions ≤ heap N sh .search .insertions * sh .buckets + 2 * placements (heap N sh)
+  heap-reads = omega (arith, heap-follows .resting .counted .reads)
 
   pub heap-placed : placements (heap N sh) + length (heap N sh .search .roster) ≤ length (heap N sh .search .roster) * sh .buckets + m + 1
   heap-placed =

@@ -5,12 +5,12 @@ use mathlib.Core.Path.{_≡_, refl}
 use mathlib.Core.Logic.{_≢_}
 use native.Mathlib.Omega.{arith}
 use lib.ListN.{length}
-use Rattle.theory.specs.Network.{Network, Path, Admissible}
+use Rattle.theory.specs.Network.{Link, Network, Path, Admissible}
 use Rattle.theory.specs.Search.{Mark, unlabelled, labelled, scanned, Search, mark, distance, search}
 use Rattle.theory.specs.Demands.{Roster}
-use Rattle.theory.proofs.Sums.{sum-same, sum-mono}
-use Rattle.theory.proofs.Search.Invariant.{scans-few}
-use Rattle.theory.specs.Invariants.{scans, known, linksOf}
+use Rattle.theory.proofs.Sums.{sum-same, sum-mono, sum-ones}
+use Rattle.theory.proofs.Search.Invariant.{known-low, scans-few}
+use Rattle.theory.specs.Invariants.{scans, known, linksOf, SearchInv}
 use Rattle.theory.proofs.Search.Ends.{Ended, search-ends}
 use Rattle.theory.proofs.Search.Cheapest.{path-scanned, scanned-path}
 
@@ -25,6 +25,15 @@ pub linksOf-le : (N : Network) (v : ℕ) (k : Mark) → linksOf N v k ≤ length
 linksOf-le N v unlabelled = omega arith
 linksOf-le N v labelled = omega arith
 linksOf-le N v scanned = omega arith
+
+-- At any time the insertions are no more than the nodes, and the decreases no more than the arcs and one.
+pub updates-few : {N : Network} {C m front left : ℕ} {Left : ℕ → Link → Type 0} {s : Search} → Admissible N C m → SearchInv N C front Left left s
+    → (s .insertions ≤ 4096) × (s .decreases ≤ 65537)
+updates-few {N} {s = s} A inv =
+    let i = inv .insertions-count in
+    let a = sum-mono (N .nodes) (λ v. known (mark s v)) (λ v. 1) (λ v _. known-low (mark s v)) in
+    let b = sum-mono (N .nodes) (λ v. linksOf N v (mark s v)) (λ v. length (N .out v)) (λ v _. linksOf-le N v (mark s v)) in
+    (omega (arith, sum-ones (N .nodes), A .few-nodes), omega (arith, inv .updates-count, A .links, A .few-arcs))
 
 -- Where nothing is labelled, as many nodes are scanned as are known.
 known-scans : (k : Mark) → k ≢ labelled → known k ≡ scans k
