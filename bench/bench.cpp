@@ -99,6 +99,21 @@ static void print_ties(const std::vector<Map> &maps, const std::vector<std::vect
     }
 }
 
+// What the planner counts on each map, both heaps: the same on every machine.
+static void print_counts(const std::vector<Map> &maps) {
+    std::printf("\nWhat the planner counts.\n\n");
+    print_head("Map", {"one level: placements", "looks", "reads", "two levels, K 64: placements", "looks", "reads"});
+    for (const Map &map : maps) {
+        std::vector<std::string> cells = {map.name};
+        for (std::uint32_t segments : {0u, 64u}) {
+            Planner planner(map, segments);
+            planner.run();
+            for (int number : {ROOSTERNOW_PLACEMENTS, ROOSTERNOW_LOOKS, ROOSTERNOW_READS}) cells.push_back(std::to_string(planner.told()[number]));
+        }
+        print_cells(cells);
+    }
+}
+
 static void print_growth(const char *title, const std::vector<Map> &maps, const std::vector<Kind> &kinds, Times &times) {
     std::printf("\n%s\n\n", title);
     print_head("Map", names_of(kinds));
@@ -156,5 +171,6 @@ int main(int count, char **words) {
     print_growth("How time grows with n (random, C 1,048,575), microseconds.", nodes, kinds, times);
     print_growth("How time grows with m (random, C 1,048,575), microseconds.", arcs, kinds, times);
     print_growth("How time changes with K (two levels), microseconds.", chosen, by_segments, times);
+    print_counts(maps);
     return 0;
 }

@@ -1,5 +1,5 @@
 // What a run costs on the machine at hand, term by term, by a fit over many maps: slot TIGHTNESS SAMPLES
-// TIGHTNESS is crates/test_tightness/stdout: the worst maps made here must have the placements and looks that it tells.
+// TIGHTNESS is crates/test_tightness/stdout: the worst maps made here must have the placements, looks and reads that it tells.
 #include "measure.hpp"
 
 #include <cmath>
@@ -23,6 +23,7 @@ struct Size {
 
 static double most_placements(const Size &size) { return size.reached() * (size.buckets() - 1) + size.m + 1; }
 static double most_looks(const Size &size) { return size.reached() * (size.buckets() + size.segments); }
+static double most_reads(const Size &size) { return size.reached() * (size.buckets() - 1) + 2 * most_placements(size); }
 
 // The terms of the model, with what they count in a run and the most that they come to by the size of a map. A further tally is one more row.
 // Bare terms are what maps without arcs cost: the run itself, and the words by node that it checks, clears and fills.
@@ -39,6 +40,7 @@ static const Term terms[] = {
      [](const Size &size) { return double(size.m); }},
     {"a placement", false, [](const Map &, const std::uint64_t *told) { return double(told[ROOSTERNOW_PLACEMENTS]); }, most_placements},
     {"a look", false, [](const Map &, const std::uint64_t *told) { return double(told[ROOSTERNOW_LOOKS]); }, most_looks},
+    {"a read", false, [](const Map &, const std::uint64_t *told) { return double(told[ROOSTERNOW_READS]); }, most_reads},
 };
 static const std::size_t term_count = sizeof terms / sizeof *terms;
 using Row = std::vector<double>;
@@ -85,9 +87,10 @@ static void check_worst(const std::vector<WorstMap> &worst, const char *path) {
         for (std::uint32_t segments : {0u, one.segments}) {
             auto &line = lines[one.map.name + (segments == 0 ? ",one" : ",two")];
             const std::vector<std::uint64_t> told = told_of(one.map, segments);
-            const std::string placements = std::to_string(told[ROOSTERNOW_PLACEMENTS]), looks = std::to_string(told[ROOSTERNOW_LOOKS]);
-            if (line["placements"] != placements || line["looks"] != looks) {
-                std::fprintf(stderr, "slot: %s: other placements or looks than in %s\n", one.map.name.c_str(), path);
+            const bool same = line["placements"] == std::to_string(told[ROOSTERNOW_PLACEMENTS]) &&
+                              line["looks"] == std::to_string(told[ROOSTERNOW_LOOKS]) && line["reads"] == std::to_string(told[ROOSTERNOW_READS]);
+            if (!same) {
+                std::fprintf(stderr, "slot: %s: other placements, looks or reads than in %s\n", one.map.name.c_str(), path);
                 std::exit(1);
             }
         }
@@ -224,17 +227,19 @@ static void print_ratios(const std::vector<Fit> &fits, const std::vector<Map> &m
 
 // Budgets as times: the most of each term, times its cost.
 static void print_examples(const std::vector<Fit> &fits) {
-    print_head("Size", {"Heap", "B", "placements at most", "looks at most", "heap operations at most", "µs by the fit", "µs raised"});
+    print_head("Size", {"Heap", "B", "placements at most", "looks at most", "reads at most", "heap operations at most", "µs by the fit",
+                        "µs raised"});
     for (const Size &given : {Size{4096, 65536, 1048575, 0}, Size{512, 2048, 10000, 0}}) {
         for (const Fit &fit : fits) {
             Size size = given;
             size.segments = fit.segments;
             Row most;
             for (const Term &term : terms) most.push_back(term.most(size));
-            const double placements = most_placements(size), looks = most_looks(size), time = fitted(most, fit.costs) / 1000;
+            const double placements = most_placements(size), looks = most_looks(size), reads = most_reads(size);
+            const double time = fitted(most, fit.costs) / 1000;
             const std::string name = "n " + grouped(size.n) + ", m " + grouped(size.m) + ", C " + grouped(size.ceiling);
-            print_cells({name, fit.name, grouped(size.buckets()), grouped(placements), grouped(looks), grouped(placements + looks),
-                         grouped(std::ceil(time)), grouped(std::ceil(fit.raise * time))});
+            print_cells({name, fit.name, grouped(size.buckets()), grouped(placements), grouped(looks), grouped(reads),
+                         grouped(placements + looks + reads), grouped(std::ceil(time)), grouped(std::ceil(fit.raise * time))});
         }
     }
 }
@@ -253,17 +258,18 @@ static std::vector<Map> fitted_maps(const std::vector<WorstMap> &worst) {
 
 static void print_all(const std::vector<Fit> &fits, const std::vector<Map> &maps, int samples) {
     std::printf("The time of a run is the sum of its terms, each its count times its cost: the run itself; each node of the map, whose words are\n"
-                "checked, cleared and filled; each arc of the map, which is checked and, where its tail is reached, examined; placements; looks.\n"
-                "Costs come from medians of %d samples on %zu maps, by least squares of the error as a share of the fit, none below 0: those of a\n"
-                "run and of a node from the maps without arcs, the others from the rest. The worst maps have the placements and looks of\n"
-                "test_tightness. Raised by the factor in \"raise by\" the fit is below no time measured.\n\n",
+                "checked, cleared and filled; each arc of the map, which is checked and, where its tail is reached, examined; placements; looks;\n"
+                "reads of bounds. Costs come from medians of %d samples on %zu maps, by least squares of the error as a share of the fit, none\n"
+                "below 0: those of a run and of a node from the maps without arcs, the others from the rest. The worst maps have the placements,\n"
+                "looks and reads of test_tightness. Raised by the factor in \"raise by\" the fit is below no time measured.\n\n",
                 samples, maps.size());
     print_fits(fits, maps);
     std::printf("\nMeasured divided by fitted.\n\n");
     print_ratios(fits, maps);
-    std::printf("\nA budget as a time. With R = min(n, m + 1) placements are at most R (B - 1) + m + 1 and looks at most R (B + K), K being 0 for\n"
-                "one level: in all R (2 B - 1) + m + 1 heap operations with one level, R (2 B + K - 1) + m + 1 with two. The counts are proved. The\n"
-                "times are an estimate: caches and branch predictors were warm, and a map that was not measured may be dearer.\n\n");
+    std::printf("\nA budget as a time. With R = min(n, m + 1) placements are at most R (B - 1) + m + 1, looks at most R (B + K), K being 0 for one\n"
+                "level, and reads at most R (B - 1) and twice the most placements: in all R (5 B - 4) + 3 m + 3 heap operations with one level,\n"
+                "R (5 B + K - 4) + 3 m + 3 with two. The counts are proved. The times are an estimate: caches and branch predictors were warm, and\n"
+                "a map that was not measured may be dearer.\n\n");
     print_examples(fits);
 }
 
@@ -276,7 +282,7 @@ int main(int count, char **words) {
     const std::vector<WorstMap> worst = worst_maps();
     check_worst(worst, words[1]);
     const std::vector<Map> maps = fitted_maps(worst);
-    const std::uint32_t segments[] = {0, 8, 32, 64};
+    const std::uint32_t segments[] = {0, 16, 32, 64};
     std::vector<Kind> kinds;
     for (std::uint32_t K : segments) kinds.push_back(planner_kind(K == 0 ? "one level" : "two levels, K " + std::to_string(K), K));
     std::vector<Row> times(kinds.size()); // nanoseconds

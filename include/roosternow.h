@@ -66,7 +66,7 @@
 #define ROOSTERNOW_ROUTE_STACK(n) (160u * (size_t)(n) + 1024u)
 
 /* Words of `numbers`. */
-#define ROOSTERNOW_RUN_NUMBERS 7
+#define ROOSTERNOW_RUN_NUMBERS 8
 #define ROOSTERNOW_ROUTE_NUMBERS 3
 #define ROOSTERNOW_READ_NUMBERS 7
 #define ROOSTERNOW_DIMACS_NUMBERS 4
@@ -100,6 +100,7 @@ enum roosternow_number {
     ROOSTERNOW_DECREASES = 4,  /* decreases + r <= m + 1 */
     ROOSTERNOW_PLACEMENTS = 5, /* placements + r <= r * B + m + 1 */
     ROOSTERNOW_LOOKS = 6,      /* at most r * B; for two levels r * (B + K) */
+    ROOSTERNOW_READS = 7,      /* reads + r <= r * B + 2 * placements */
     /* route */
     ROOSTERNOW_ROUTE_NODES = 2, /* nodes of the route, source and destination included */
     /* read; read_dimacs has the first two */
@@ -172,23 +173,23 @@ static inline uint64_t roosternow_exponent_above(uint64_t base, uint32_t ceiling
     return exponent;
 }
 
-/* R times `for_each_node`, and m + 1; 0 for a size that the runs refuse. */
+/* R times `for_each_node`, and 3 * m + 3; 0 for a size that the runs refuse. */
 static inline uint64_t roosternow_most_operations(uint32_t n, uint32_t m, uint32_t ceiling, uint64_t for_each_node) {
     uint64_t reached = n <= m ? n : (uint64_t)m + 1u;
     if (n < ROOSTERNOW_LEAST_NODES || n > ROOSTERNOW_MOST_NODES || m > ROOSTERNOW_MOST_ARCS || ceiling > ROOSTERNOW_MOST_CEILING) {
         return 0;
     }
-    return reached * for_each_node + m + 1u;
+    return reached * for_each_node + 3u * m + 3u;
 }
 
 /*
- * The most heap operations of a run, placements and looks together, on any map with n nodes and m arcs: a budget before a map is known.
- * With R the smaller of n and m + 1: R * (2 * B - 1) + m + 1 for one level, R * (2 * B + K - 1) + m + 1 for two. 0 for a size that the run
- * refuses, since a refused run makes none. The largest size, with K = 64, has 241,665 and 364,545.
+ * The most heap operations of a run, placements, looks and reads together, on any map with n nodes and m arcs: a budget before a map is
+ * known. With R the smaller of n and m + 1: R * (5 * B - 4) + 3 * m + 3 for one level, R * (5 * B + K - 4) + 3 * m + 3 for two. 0 for a size
+ * that the run refuses, since a refused run makes none. The largest size, with K = 64, has 630,787 and 544,771.
  */
 static inline uint64_t roosternow_most_operations_one_level(uint32_t n, uint32_t m, uint32_t ceiling) {
     uint64_t buckets = roosternow_exponent_above(2, ceiling) + 2u;
-    return roosternow_most_operations(n, m, ceiling, 2u * buckets - 1u);
+    return roosternow_most_operations(n, m, ceiling, 5u * buckets - 4u);
 }
 
 static inline uint64_t roosternow_most_operations_two_level(uint32_t n, uint32_t m, uint32_t ceiling, uint32_t segments) {
@@ -196,7 +197,7 @@ static inline uint64_t roosternow_most_operations_two_level(uint32_t n, uint32_t
         return 0;
     }
     uint64_t buckets = roosternow_exponent_above(segments, ceiling) + 1u;
-    return roosternow_most_operations(n, m, ceiling, 2u * (buckets < 2u ? 2u : buckets) + segments - 1u);
+    return roosternow_most_operations(n, m, ceiling, 5u * (buckets < 2u ? 2u : buckets) + segments - 4u);
 }
 
 /* ROOSTERNOW_VERSION of the archive: a program compares it with the macro, so that a header of another version is noticed. */
@@ -211,7 +212,7 @@ uint32_t roosternow_version(void);
  * Gives: distances[v], the least cost of a route to v, and parents[v], the last arc of such a route; ROOSTERNOW_NONE where there is none. A
  *   parent is the first arc examined that gives the distance, where nodes are scanned by distance and number, and arcs by number. roster[0]
  *   to roster[r - 1] are the reached nodes by nondecreasing distance, equal distances in any order. The ROOSTERNOW_WORK_ONE_LEVEL(n) first
- *   work words are 0. numbers: 0, 0, r, B, decreases, placements, looks.
+ *   work words are 0. numbers: 0, 0, r, B, decreases, placements, looks, reads.
  * Refuses: 1 to 6, 20, 7, 8, then 10 with place 0 distances, 1 parents, 2 roster, 3 work; in this order, the first found.
  * Costs: time in proportion to n + m + r * B at most; stack below 2 KB.
  */
@@ -229,8 +230,8 @@ void roosternow_one_level(uint32_t n, uint32_t ceiling, uint32_t source,
 /*
  * The two-level run: the same with `segments` K segments to a bucket, 2 to 64.
  *
- * Which K: the bound on heap operations is least where 2 * B + K is, which from C = 27 up some K of 4 to 8 attains (for C = 1,048,575
- *   6 or 8). In time 16 to 64 is fastest on most maps, and 16 on chains (docs/BENCHMARK.md, "How time changes with K"). So a small K where
+ * Which K: the bound on heap operations is least where 5 * B + K is, which from C = 16 up some K of 5 to 14 attains (for C = 1,048,575
+ *   11). In time 16 to 64 is fastest on most maps, and 16 on chains (docs/BENCHMARK.md, "How time changes with K"). So a small K where
  *   a slot is sized by heap operations, and 32 where time counts.
  * Needs: as roosternow_one_level, with ROOSTERNOW_WORK_TWO_LEVEL(n) words of work.
  * Gives: as roosternow_one_level, with distances, parents, r and decreases equal to its own, and ROOSTERNOW_WORK_TWO_LEVEL(n) work words 0.

@@ -1,5 +1,5 @@
-/* A rack that plans eight loops on one processor, slot after slot, each within a budget of heap operations that was set before any map was
-   known: rack [--budget-share THOUSANDTHS] */
+/* A rack that plans eight loops on one processor, slot after slot, each within a budget of heap operations (placements, looks and reads) that
+   was set before any map was known: rack [--budget-share THOUSANDTHS] */
 #include "roosternow.h"
 
 #include <inttypes.h>
@@ -16,14 +16,15 @@ struct size {
     uint32_t n, arcs_of_node, ceiling, segments; /* segments 0 for one level */
 };
 
+/* The K of loops 2, 3, 4 and 6 makes their budgets least (docs/DATASHEET.md, "Which K"). */
 static const struct size sizes[LOOPS] = {
     {24, 4, 255, 0},
     {48, 3, 1000, 0},
-    {64, 4, 4095, 4},
-    {96, 6, 10000, 5},
-    {180, 4, 65535, 8},
+    {64, 4, 4095, 8},
+    {96, 6, 10000, 11},
+    {180, 4, 65535, 10},
     {320, 8, 99999, 16},
-    {512, 4, 1048575, 8},
+    {512, 4, 1048575, 16},
     {4096, 2, 1048575, 32},
 };
 
@@ -129,7 +130,7 @@ static int serve(int loop, int slot) {
                 numbers[ROOSTERNOW_PLACE], roosternow_refusal_text(numbers[ROOSTERNOW_RETURNED]));
         exit(1);
     }
-    uint64_t used = numbers[ROOSTERNOW_PLACEMENTS] + numbers[ROOSTERNOW_LOOKS];
+    uint64_t used = numbers[ROOSTERNOW_PLACEMENTS] + numbers[ROOSTERNOW_LOOKS] + numbers[ROOSTERNOW_READS];
     int over = used > loops[loop].budget;
     if (over && loops[loop].most_used <= loops[loop].budget) {
         fprintf(stderr, "rack: loop %d, slot %d: %" PRIu64 " heap operations, %" PRIu64 " in the budget\n", loop, slot, used,

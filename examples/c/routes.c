@@ -23,9 +23,10 @@ static int refused(const char *what, const uint64_t *numbers) {
 }
 
 static void print_run(const char *heap, const uint64_t *numbers) {
-    printf("%s: %" PRIu64 " nodes reached, %" PRIu64 " buckets, %" PRIu64 " decreases, %" PRIu64 " placements, %" PRIu64 " looks\n", heap,
-           numbers[ROOSTERNOW_REACHED], numbers[ROOSTERNOW_BUCKETS], numbers[ROOSTERNOW_DECREASES], numbers[ROOSTERNOW_PLACEMENTS],
-           numbers[ROOSTERNOW_LOOKS]);
+    printf("%s: %" PRIu64 " nodes reached, %" PRIu64 " buckets, %" PRIu64 " decreases, %" PRIu64 " placements, %" PRIu64 " looks, %" PRIu64
+           " reads\n",
+           heap, numbers[ROOSTERNOW_REACHED], numbers[ROOSTERNOW_BUCKETS], numbers[ROOSTERNOW_DECREASES], numbers[ROOSTERNOW_PLACEMENTS],
+           numbers[ROOSTERNOW_LOOKS], numbers[ROOSTERNOW_READS]);
 }
 
 static int print_route(uint32_t n, uint32_t m, uint32_t source, uint32_t destination) {

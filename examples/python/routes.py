@@ -44,11 +44,11 @@ def main(planner, data):
     distances, parents, roster, route = words(n), words(n), words(n), words(n)
     size = [number(n), number(ceiling), number(source)]
     lists = lent(starts, heads, costs, holds, distances, parents, roster)
-    one = called(planner.roosternow_one_level, 7, *size, *lists, *lent(words(4 * n + 64)))
-    two = called(planner.roosternow_two_level, 7, *size, number(segments), *lists, *lent(words(4 * n + 384)))
+    one = called(planner.roosternow_one_level, 8, *size, *lists, *lent(words(4 * n + 64)))
+    two = called(planner.roosternow_two_level, 8, *size, number(segments), *lists, *lent(words(4 * n + 384)))
     print("%d,%d,%d,%d" % (n, m, two[0], two[2]))
-    print("one,%d,%d,%d" % (one[1], one[3], one[4]))
-    print("two,%d,%d,%d" % (two[1], two[3], two[4]))
+    print("one,%d,%d,%d,%d" % (one[1], *one[3:]))
+    print("two,%d,%d,%d,%d" % (two[1], *two[3:]))
     for node in range(n):
         if distances[node] != NONE:
             walked = [number(n), number(source), *lent(starts, heads, parents), number(node), *lent(route)]

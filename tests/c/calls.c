@@ -280,13 +280,13 @@ static void call_run(bool two, uint32_t damage) {
     }
     size_t lent[4] = {distances.length, parents.length, roster.length, work.length};
     struct plain_fault fault = plain_run_check(&map, two, segments, lent);
-    uint64_t expected[ROOSTERNOW_RUN_NUMBERS] = {fault.number, fault.place, 0, 0, 0, 0, 0};
+    uint64_t expected[ROOSTERNOW_RUN_NUMBERS] = {fault.number, fault.place, 0, 0, 0, 0, 0, 0};
     bool accepted = fault.number == 0;
     if (accepted) {
         expect(plain_plan(&map, two, segments, &run), "plain.h: the smallest node is not in the lowest bucket");
         expect_cheapest();
         expected[2] = run.reached, expected[3] = run.buckets, expected[4] = run.decreases;
-        expected[5] = run.placements, expected[6] = run.looks;
+        expected[5] = run.placements, expected[6] = run.looks, expected[7] = run.reads;
     }
     told[two ? TWO_LEVEL : ONE_LEVEL][fault.number]++;
     compare(&run_numbers, expected, ROOSTERNOW_RUN_NUMBERS, two ? "two_level: numbers" : "one_level: numbers");
@@ -560,7 +560,7 @@ static void *work_on(void *argument) {
         roosternow_two_level(n, map.ceiling, map.source, segments, map.starts, map.starts_words, map.heads, map.heads_words, map.costs,
                              map.costs_words, map.holds, map.holds_words, own, n, own + n, n, own + 2 * n, n, own + 3 * n,
                              ROOSTERNOW_WORK_TWO_LEVEL(n), numbers);
-        worker->right = worker->right && numbers[0] == 0 && numbers[6] == worker->expected->looks;
+        worker->right = worker->right && numbers[0] == 0 && numbers[6] == worker->expected->looks && numbers[7] == worker->expected->reads;
         worker->right = worker->right && memcmp(own, worker->expected->distances, 4 * (size_t)n) == 0;
         worker->right = worker->right && memcmp(own + n, worker->expected->parents, 4 * (size_t)n) == 0;
     }
@@ -606,14 +606,14 @@ static void report(uint64_t inputs) {
     }
 }
 
-/* The data sheet's formulas, worked out by hand: R (2 B - 1) + m + 1 and R (2 B + K - 1) + m + 1. */
+/* The data sheet's formulas, worked out by hand: R (5 B - 4) + 3 m + 3 and R (5 B + K - 4) + 3 m + 3. */
 static void expect_operations(void) {
-    expect(roosternow_most_operations_one_level(5, 7, 9) == 5 * 11 + 8, "heap operations of document 01's listing, one level");
-    expect(roosternow_most_operations_two_level(5, 7, 9, 3) == 5 * 10 + 8, "heap operations of document 01's listing, two levels");
-    expect(roosternow_most_operations_one_level(300, 1200, 10000) == 10501, "heap operations of a loop, one level");
-    expect(roosternow_most_operations_two_level(300, 1200, 10000, 7) == 6601, "heap operations of a loop, two levels");
-    expect(roosternow_most_operations_one_level(1, 0, 0) == 1 * 3 + 1, "heap operations of one node, one level");
-    expect(roosternow_most_operations_two_level(4096, 3, 0, 2) == 4 * 5 + 4, "heap operations of four nodes at most, two levels");
+    expect(roosternow_most_operations_one_level(5, 7, 9) == 5 * 26 + 24, "heap operations of document 01's listing, one level");
+    expect(roosternow_most_operations_two_level(5, 7, 9, 3) == 5 * 19 + 24, "heap operations of document 01's listing, two levels");
+    expect(roosternow_most_operations_one_level(300, 1200, 10000) == 26403, "heap operations of a loop, one level");
+    expect(roosternow_most_operations_two_level(300, 1200, 10000, 7) == 13503, "heap operations of a loop, two levels");
+    expect(roosternow_most_operations_one_level(1, 0, 0) == 1 * 6 + 3, "heap operations of one node, one level");
+    expect(roosternow_most_operations_two_level(4096, 3, 0, 2) == 4 * 8 + 12, "heap operations of four nodes at most, two levels");
     expect(roosternow_most_operations_one_level(4097, 0, 0) == 0, "heap operations of a size that is refused");
     expect(roosternow_most_operations_two_level(1, 0, 0, 65) == 0, "heap operations of a K that is refused");
 }
