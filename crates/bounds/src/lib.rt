@@ -18,14 +18,14 @@ pub fn bound_of(words: &[u32], n: usize, i: usize) -> u32
 }
 
 // The bucket of a key, and the bounds that the search for it has read (document 02, paper 3).
-pub struct Searched {
+pub struct BucketSearch {
     pub bucket: usize,
     pub reads: u32,
 }
 
 // The bucket of a key, searched for from bucket `start` down. The bounds are read one by one, so how many there were is told from where the
 // search ends: no second count runs beside it.
-pub fn bucket_of(words: &[u32], n: usize, key: u32, start: usize) -> Searched
+pub fn bucket_of(words: &[u32], n: usize, key: u32, start: usize) -> BucketSearch
     requires { ⌜ 4 * n + start < length (now words) ⌝ }
     requires { ⌜ start ≤ 32 ⌝ }
     ensures { λ r. ⌜ (r .bucket ≡ bucketFrom (boundsOf n (now (words .entry))) key start)
@@ -34,28 +34,28 @@ pub fn bucket_of(words: &[u32], n: usize, key: u32, start: usize) -> Searched
     let mut i = start;
     while 0 < i {
         if bound_of(words, n, i) < key {
-            return Searched {
+            return BucketSearch {
                 bucket: i + 1,
                 reads: (start - i + 1) as u32,
             };
         }
         i -= 1;
     }
-    Searched {
+    BucketSearch {
         bucket: 1,
         reads: start as u32,
     }
 }
 
 // The same for a key that is no higher than the bound of the bucket where the search begins, and that bound.
-pub struct Held {
+pub struct HeldSearch {
     pub bound: u32,
     pub bucket: usize,
     pub reads: u32,
 }
 
 // The first bound is read, and need not be compared: the search goes on below it.
-pub fn bucket_held(words: &[u32], n: usize, key: u32, start: usize) -> Held
+pub fn bucket_held(words: &[u32], n: usize, key: u32, start: usize) -> HeldSearch
     requires { ⌜ 4 * n + start < length (now words) ⌝ }
     requires { ⌜ (1 ≤ start) × (start ≤ 32) ⌝ }
     requires { ⌜ key ≤ bound (boundsOf n (now words)) start ⌝ }
@@ -66,7 +66,7 @@ pub fn bucket_held(words: &[u32], n: usize, key: u32, start: usize) -> Held
     let bound = bound_of(words, n, start);
     let below = bucket_of(words, n, key, start - 1);
     let reads = below.reads + 1;
-    Held {
+    HeldSearch {
         bound,
         bucket: below.bucket,
         reads,

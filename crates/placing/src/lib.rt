@@ -1,5 +1,5 @@
 // Placements of nodes: insertions and decreases, and the relaxation of an arc that makes them (document 01, "The search" and "The tallies").
-use bounds::Held;
+use bounds::HeldSearch;
 use model::Arc;
 use model::Node;
 use state::Layout;
@@ -45,7 +45,7 @@ pub fn enter(
 
 // Whether a key, below that of a node in a list, has the same place word, by the bucket that its search has found: the node then stays where
 // it is, and nothing is moved.
-fn stays(sizes: &[u32], layout: Layout, front: u32, place: u32, key: u32, held: Held) -> bool
+fn stays(sizes: &[u32], layout: Layout, front: u32, place: u32, key: u32, held: HeldSearch) -> bool
     requires { ⌜ Standing layout (now sizes) (held .bound) place key ⌝ }
     ensures { λ r. ⌜ (r ≡ true → Stays layout (now (sizes .entry)) front place key (held .bound) (held .bucket)) ⌝ }
 {
@@ -71,7 +71,7 @@ fn stays(sizes: &[u32], layout: Layout, front: u32, place: u32, key: u32, held: 
 }
 
 // Node v, unlabelled in the words, gets the distance `sum` by this arc: it is inserted.
-pub fn insert(
+pub fn insert_node(
     words: &mut [u32],
     distances: &mut [u32],
     parents: &mut [u32],
@@ -124,7 +124,7 @@ pub fn label(
     let n = layout.nodes;
     let place = frontier::place_of(words, n, v);
     if frontier::is_unlabelled(place) {
-        return insert(words, distances, parents, sizes, layout, state, v, arc, sum);
+        return insert_node(words, distances, parents, sizes, layout, state, v, arc, sum);
     }
     let at = v.0 as usize;
     distances[at] = sum;

@@ -31,8 +31,8 @@ use Rattle.state.proofs.Remove.{Removing, listed-min, listed-fit, listed-seg, l
 use Rattle.placing.specs.Placing.{Formed, lists}
 use Rattle.finding.specs.Finding.{Holds, LowestBucket, InBucketSome, LowestSegment, looksOf}
 use Rattle.shifting.specs.Renewing.{Renews, renewed}
-use Rattle.shifting.specs.Moving.{shiftsOf, movedReads, inSlot, readsIn, Distributes, Distributed}
-use Rattle.shifting.proofs.Moving.{shifts-low}
+use Rattle.shifting.specs.Moving.{shiftsOf, nodeReads, inSlot, readsIn, Distributes, Distributed}
+use Rattle.shifting.proofs.Moving.{shiftsOf-low}
 use Rattle.removal.specs.Removing.{Rests, Removal}
 use Rattle.removal.proofs.Counts.{nodes-few, shifts-few, reads-few}
 
@@ -184,8 +184,8 @@ module _ {layout : Layout} {sizes : List ℕ} {X : Setting layout sizes} {before
 
       -- For no node are more bounds read than there are.
       read-most : readsIn layout w₂ u (l .distances) j slot ≤ n * 22
-      read-most = sum-most n 22 (λ w. isWord (placeWord K slot) (getD (places n w₂) w 0) * movedReads u (l .distances) j w) (λ w lo.
-          let few : movedReads u (l .distances) j w ≤ 22 = omega (arith, reads-most u (getD (l .distances) w 0) j, b .high, X .agrees .sized .few) in
+      read-most = sum-most n 22 (λ w. isWord (placeWord K slot) (getD (places n w₂) w 0) * nodeReads u (l .distances) j w) (λ w lo.
+          let few : nodeReads u (l .distances) j w ≤ 22 = omega (arith, reads-most u (getD (l .distances) w 0) j, b .high, X .agrees .sized .few) in
           omega (arith, mul-le-mul (isWord-low (placeWord K slot) (getD (places n w₂) w 0)) few))
 
       -- The others of the slot can be moved.
@@ -211,7 +211,7 @@ module _ {layout : Layout} {sizes : List ℕ} {X : Setting layout sizes} {before
               (moved-apart X (R .stands) (R .resting .rest) (R .resting .inv) (R .long) none-current (g .slot) (b .lower) (g .earlier) found u bounds-are w lo (q .0) (q .1));
           current = taken .current ∙ sym (sum-zero n (λ w. isWord 1 (getD (places n w₂) w 0)) none-left);
           shifts-few = omega (arith, same-shifts (taken .tally), shifts-few R, nodes-few R);
-          reads-few = omega (arith, same-reads (taken .tally), reads-few R, read-most, shifts-low j (readsIn layout w₂ u (l .distances) j slot));
+          reads-few = omega (arith, same-reads (taken .tally), reads-few R, read-most, shiftsOf-low j (readsIn layout w₂ u (l .distances) j slot));
         }
 
         -- They have moved.
@@ -241,7 +241,7 @@ module _ {layout : Layout} {sizes : List ℕ} {X : Setting layout sizes} {before
               listed-reads X (R .stands) (R .resting .rest) (R .resting .inv) (R .long) none-current (g .slot) (b .lower) (g .earlier) found
               (λ w. getD (places n w₂) w 0) here (λ w lo q. other w q) u bounds-are
               ∙ ap (λ (c : ℕ). h .reads + shiftsOf j c)
-              (sum-same n (λ w. isWord (slotWord K j k) (getD (places n w₂) w 0) * readsFrom u (keyOf h w) j) (λ w. isWord (placeWord K slot) (getD (places n w₂) w 0) * movedReads u (l .distances) j w)
+              (sum-same n (λ w. isWord (slotWord K j k) (getD (places n w₂) w 0) * readsFrom u (keyOf h w) j) (λ w. isWord (placeWord K slot) (getD (places n w₂) w 0) * nodeReads u (l .distances) j w)
               (λ w lo. ap (λ (x : ℕ). isWord (slotWord K j k) (getD (places n w₂) w 0) * readsFrom u x j) (sym (key-of w lo))))
 
           removing : Removing key (shiftsOf j (inSlot layout w₂ slot)) (looksOf K j k) (shiftsOf j (readsIn layout w₂ u (l .distances) j slot)) s s′

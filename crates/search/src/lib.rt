@@ -61,7 +61,7 @@ pub fn start(
         reached: 0,
         tally,
     };
-    placing::insert(
+    placing::insert_node(
         words,
         distances,
         parents,

@@ -29,7 +29,7 @@ use Rattle.state.proofs.Find.{words-few, isWord-same, isWord-other}
 use Rattle.state.specs.Tallies.{afterShifts}
 use Rattle.state.proofs.Tallies.{same-tally, same-insertions, same-decreases, same-shifts, same-looks, same-reads}
 use Rattle.placing.specs.Placing.{Formed}
-use Rattle.shifting.specs.Moving.{shiftsOf, movedBucket, movedReads, movedWord, Settles, Settled, inSlot, readsIn, Distributes, Distributed}
+use Rattle.shifting.specs.Moving.{shiftsOf, movedBucket, nodeReads, movedWord, Settles, Settled, inSlot, readsIn, Distributes, Distributed}
 
 -- The key of node v can be placed (document 01, "One-level heap").
 pub record Moves (layout : Layout) (sizes words distances : List ℕ) (s : State) (bucket v : ℕ) : Type 0 where
@@ -42,7 +42,7 @@ pub record Moves (layout : Layout) (sizes words distances : List ℕ) (s : State
   pub equal : bucket ≤ 1 → getD distances v 0 ≡ s .front
   pub current-few : s .current ≤ 4096
   pub shifts-few : s .tally .shifts < 4294967295
-  pub reads-few : 1 < bucket → s .tally .reads + movedReads (boundsOf (layout .nodes) words) distances bucket v < 4294967296
+  pub reads-few : 1 < bucket → s .tally .reads + nodeReads (boundsOf (layout .nodes) words) distances bucket v < 4294967296
 
 -- Node v has moved (document 01, "One-level heap").
 pub record Moved (layout : Layout) (sizes words words′ distances : List ℕ) (s s′ : State) (bucket v : ℕ) : Type 0 where
@@ -50,7 +50,7 @@ pub record Moved (layout : Layout) (sizes words words′ distances : List ℕ) (
   pub front : s′ .front ≡ s .front
   pub current : s′ .current ≡ s .current + isWord 1 (movedWord layout sizes words distances (s .front) bucket v)
   pub reached : s′ .reached ≡ s .reached
-  pub tally : s′ .tally ≡ afterShifts (shiftsOf bucket 1) (shiftsOf bucket (movedReads (boundsOf (layout .nodes) words) distances bucket v)) (s .tally)
+  pub tally : s′ .tally ≡ afterShifts (shiftsOf bucket 1) (shiftsOf bucket (nodeReads (boundsOf (layout .nodes) words) distances bucket v)) (s .tally)
 
 -- The bounds are as they were after a change of a place word.
 pub bounds-same : {n slots K B : ℕ} {w w′ : List ℕ} {v x : ℕ} → B ≤ 22 → Placed n slots K w w′ v x → (i : ℕ) → 1 ≤ i → i ≤ B → bound (boundsOf n w) i ≡ bound (boundsOf n w′) i
@@ -62,7 +62,7 @@ module _ (layout : Layout) (words words′ distances : List ℕ) (bucket v : ℕ
   same-found : movedBucket layout words distances bucket v ≡ movedBucket layout words′ distances bucket v
   same-found = bucketFrom-same (boundsOf (layout .nodes) words) (boundsOf (layout .nodes) words′) (getD distances v 0) bucket (λ i low high. same i low (omega (arith, within)))
 
-  same-read : movedReads (boundsOf (layout .nodes) words) distances bucket v ≡ movedReads (boundsOf (layout .nodes) words′) distances bucket v
+  same-read : nodeReads (boundsOf (layout .nodes) words) distances bucket v ≡ nodeReads (boundsOf (layout .nodes) words′) distances bucket v
   same-read = reads-same (boundsOf (layout .nodes) words) (boundsOf (layout .nodes) words′) (getD distances v 0) bucket (λ i low high. same i low (omega (arith, within)))
 
   module _ {sizes : List ℕ} {front : ℕ} (E : Enters (layout .buckets) (layout .segments) sizes (boundsOf (layout .nodes) words) front (getD distances v 0) (movedBucket layout words distances bucket v)) where
@@ -78,7 +78,7 @@ module _ {layout : Layout} {sizes words distances : List ℕ} {s : State} {bucke
   same-bounds : (i : ℕ) → 1 ≤ i → i ≤ layout .buckets → bound (boundsOf (layout .nodes) words) i ≡ bound (boundsOf (layout .nodes) w₁) i
   same-bounds = bounds-same (M .formed .sized .few) P
 
-  read-is : movedReads (boundsOf (layout .nodes) words) distances bucket v ≡ movedReads (boundsOf (layout .nodes) w₁) distances bucket v
+  read-is : nodeReads (boundsOf (layout .nodes) words) distances bucket v ≡ nodeReads (boundsOf (layout .nodes) w₁) distances bucket v
   read-is = same-read layout words w₁ distances bucket v (M .within) same-bounds
 
   pub settles : Settles layout sizes w₁ distances s bucket v
@@ -137,8 +137,8 @@ shifts-next bucket a b c = go (ltb 1 bucket)
     go true = omega arith
     go false = omega arith
 
-pub shifts-low : (bucket a : ℕ) → shiftsOf bucket a ≤ a
-shifts-low bucket a = go (ltb 1 bucket)
+pub shiftsOf-low : (bucket a : ℕ) → shiftsOf bucket a ≤ a
+shiftsOf-low bucket a = go (ltb 1 bucket)
   where
     go : (t : Bool) → cond t a 0 ≤ a
     go true = omega arith
@@ -153,7 +153,7 @@ module _ {layout : Layout} {sizes words₀ distances : List ℕ} {s₀ : State} 
 
   -- The bounds that are read for node w.
   abbrev read : ℕ → ℕ
-  read = movedReads (boundsOf n words₀) distances bucket
+  read = nodeReads (boundsOf n words₀) distances bucket
 
   pub distributing-start : Distributing layout sizes words₀ distances s₀ bucket slot words₀ s₀
   distributing-start = record {
@@ -182,7 +182,7 @@ module _ {layout : Layout} {sizes words₀ distances : List ℕ} {s₀ : State} 
     same-moved w l e = again-word layout words₀ words distances bucket w (Q .high) bounds-from (Q .enters w l (first-word w l e))
         ∙ ap (λ (f : ℕ). movedWord layout sizes words distances f bucket w) (sym (P .front))
 
-    read-same : (w : ℕ) → read w ≡ movedReads (boundsOf n words) distances bucket w
+    read-same : (w : ℕ) → read w ≡ nodeReads (boundsOf n words) distances bucket w
     read-same w = same-read layout words₀ words distances bucket w (Q .high) bounds-from
 
     one-read : (v : ℕ) → place v ≡ from → isWord from (place v) * read v ≡ read v
@@ -202,7 +202,7 @@ module _ {layout : Layout} {sizes words₀ distances : List ℕ} {s₀ : State} 
       enters = rw (P .front) (again-enters layout words₀ words distances bucket v (Q .high) bounds-from (Q .enters v l (first-word v l e)));
       equal = λ low. Q .equal low v l (first-word v l e) ∙ sym (P .front);
       current-few = omega (arith, P .current, words-few n 1 place, Q .frontier .few);
-      shifts-few = omega (arith, same-shifts (P .tally), Q .shifts-few, shifts-low bucket (inSlot layout words₀ slot), words-few n from (λ w. getD (places n words₀) w 0));
+      shifts-few = omega (arith, same-shifts (P .tally), Q .shifts-few, shiftsOf-low bucket (inSlot layout words₀ slot), words-few n from (λ w. getD (places n words₀) w 0));
       reads-few = λ far.
           let whole : shiftsOf bucket (readsIn layout words (boundsOf n words₀) distances bucket slot) ≡ readsIn layout words (boundsOf n words₀) distances bucket slot = rw (lt-ltb 1 bucket far) in
           omega (arith, same-reads (P .tally), Q .reads-few, read-there v l e, read-same v);
@@ -287,8 +287,8 @@ module _ {layout : Layout} {sizes words₀ distances : List ℕ} {s₀ : State} 
       current = P .current;
       reached = P .reached;
       tally = same-tally (same-insertions (P .tally)) (same-decreases (P .tally))
-          (omega (arith, same-shifts (P .tally), ap (shiftsOf bucket) zero-left, shifts-low bucket 0)) (same-looks (P .tally))
-          (omega (arith, same-reads (P .tally), ap (shiftsOf bucket) none-read, shifts-low bucket 0));
+          (omega (arith, same-shifts (P .tally), ap (shiftsOf bucket) zero-left, shiftsOf-low bucket 0)) (same-looks (P .tally))
+          (omega (arith, same-reads (P .tally), ap (shiftsOf bucket) none-read, shiftsOf-low bucket 0));
     }
       where
         zero-left : inSlot layout words slot ≡ 0

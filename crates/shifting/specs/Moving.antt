@@ -28,8 +28,8 @@ abbrev pub movedBucket : (layout : Layout) → (words distances : List ℕ) → 
 movedBucket layout words distances bucket v = bucketFrom (boundsOf (layout .nodes) words) (getD distances v 0) bucket
 
 -- The bounds that this search reads, by the bounds u (document 02, paper 3).
-abbrev pub movedReads : (u distances : List ℕ) → (bucket v : ℕ) → ℕ
-movedReads u distances bucket v = readsFrom u (getD distances v 0) bucket
+abbrev pub nodeReads : (u distances : List ℕ) → (bucket v : ℕ) → ℕ
+nodeReads u distances bucket v = readsFrom u (getD distances v 0) bucket
 
 -- The word that node v is given: that of its key in the bucket found (document 01, "One-level heap").
 abbrev pub movedWord : (layout : Layout) → (sizes words distances : List ℕ) → (front bucket v : ℕ) → ℕ
@@ -44,7 +44,7 @@ pub record Settles (layout : Layout) (sizes words distances : List ℕ) (s : Sta
   pub long : layout .nodes ≤ length distances
   pub current-few : s .current ≤ 4096
   pub shifts-few : s .tally .shifts < 4294967295
-  pub reads-few : 1 < bucket → s .tally .reads + movedReads (boundsOf (layout .nodes) words) distances bucket v < 4294967296
+  pub reads-few : 1 < bucket → s .tally .reads + nodeReads (boundsOf (layout .nodes) words) distances bucket v < 4294967296
 
 -- Node v is placed by its key, and the move is counted (document 01, "One-level heap" and "The tallies").
 pub record Settled (layout : Layout) (sizes words words′ distances : List ℕ) (s s′ : State) (bucket v : ℕ) : Type 0 where
@@ -53,7 +53,7 @@ pub record Settled (layout : Layout) (sizes words words′ distances : List ℕ)
   pub front : s′ .front ≡ s .front
   pub current : s′ .current ≡ s .current + counted
   pub reached : s′ .reached ≡ s .reached
-  pub tally : s′ .tally ≡ afterShifts (shiftsOf bucket 1) (shiftsOf bucket (movedReads (boundsOf (layout .nodes) words) distances bucket v)) (s .tally)
+  pub tally : s′ .tally ≡ afterShifts (shiftsOf bucket 1) (shiftsOf bucket (nodeReads (boundsOf (layout .nodes) words) distances bucket v)) (s .tally)
 
 -- The nodes that have the word of a slot (document 01, "Two-level heap").
 abbrev pub inSlot : (layout : Layout) → (words : List ℕ) → (slot : ℕ) → ℕ
@@ -62,7 +62,7 @@ inSlot layout words slot = withWord (layout .nodes) words (placeWord (layout .se
 -- The bounds that are read when these nodes are shifted from a bucket, by the bounds u (document 02, paper 3).
 abbrev pub readsIn : (layout : Layout) → (words u distances : List ℕ) → (bucket slot : ℕ) → ℕ
 readsIn layout words u distances bucket slot =
-    sumBelow (layout .nodes) (λ v. isWord (placeWord (layout .segments) slot) (getD (places (layout .nodes) words) v 0) * movedReads u distances bucket v)
+    sumBelow (layout .nodes) (λ v. isWord (placeWord (layout .segments) slot) (getD (places (layout .nodes) words) v 0) * nodeReads u distances bucket v)
 
 -- Every node of a slot can be moved out of it (document 01, "Two-level heap").
 pub record Distributes (layout : Layout) (sizes words distances : List ℕ) (s : State) (bucket slot : ℕ) : Type 0 where

@@ -56,7 +56,7 @@ module _ (f : tie.Then1) where
   fresh : getD (places (fresh-start .args .layout .nodes) (fresh-start .args .words .now)) (fresh-start .args .v .0) 0 ≡ 0
   fresh = sym (fresh-place f .place-of .ensures) ∙ eqb-true _ 0 (sym (f .before .is-unlabelled .ensures) ∙ f .if1 .taken)
 
-insert-requires : tie.Need-insert-requires
+insert-requires : tie.Need-insert-node-requires
 insert-requires c κs = let f : tie.Then1 = search needs in (fresh-start f .pre, fresh f)
 
 -- The tallies of a decrease.

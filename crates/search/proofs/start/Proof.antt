@@ -59,7 +59,7 @@ module _ (first-set : tie.After-first-bounds) where
       blank-place (entry .pre .starts) (words-filled .fill .ensures) (first-set .first-bounds .ensures) (distances-filled .fill2 .ensures) (parents-filled .fill3 .ensures)
       (entry .args .source .0)
 
-insert-requires : tie.Need-insert-requires
+insert-requires : tie.Need-insert-node-requires
 insert-requires c κs =
     let b : tie.After-first-bounds = search needs in
     let p = entry b .pre in (
@@ -67,13 +67,13 @@ insert-requires c κs =
       unlabelled b,
     )
 
-abbrev before-insert : tie.After-insert → tie.After-first-bounds
+abbrev before-insert : tie.After-insert-node → tie.After-first-bounds
 before-insert c = search needs
 
 returns : tie.Need-returns
 returns c =
-    let inserted : tie.After-insert = search needs in
-    let made = inserted .insert .ensures in
+    let inserted : tie.After-insert-node = search needs in
+    let made = inserted .insert-node .ensures in
     (λ X before S. rw (← (started S)) (made .0 X before before (heapBlank (X .network) (X .shape)) (labels (before-insert inserted) S before)), made .1)
 
 pub start-spec : {M : Type 1} → statement M

@@ -1,4 +1,4 @@
--- `placing::insert` meets its contract.
+-- `placing::insert_node` meets its contract.
 use Prim.Native.Nat.{_+_, _≤_}
 use native.Mathlib.Omega.{arith}
 use native.Mathlib.Nat.{le-refl}
@@ -7,8 +7,8 @@ use Rattle.state.specs.Tallies.{reads, afterEvent}
 use Rattle.state.proofs.Tallies.{same-reads}
 use Rattle.placing.proofs.Labelling.{entered-low, node, distances-long, current-few, read-few, fresh-read, fresh-entering, fresh-stands}
 use borrow.Author.Needs.{needs}
-use Rattle.placing.proofs.insert.Statement.{statement}
-use Rattle.placing.proofs.insert.Tie as tie
+use Rattle.placing.proofs.insert_node.Statement.{statement}
+use Rattle.placing.proofs.insert_node.Tie as tie
 
 -- The places that the answers name: the start, and what the search and the entry have left.
 abbrev start : tie.After-bucket-of → tie.Start
@@ -54,8 +54,8 @@ returns c =
       refl,
     )
 
-pub insert-spec : {M : Type 1} → statement M
-insert-spec =
+pub insert-node-spec : {M : Type 1} → statement M
+insert-node-spec =
     tie.close
     (tie.spec
     (λ c. search needs)
