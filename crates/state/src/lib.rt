@@ -19,8 +19,8 @@ pub struct Layout {
     pub slots: usize,
 }
 
-// The counts of a run (document 01, "The tallies"; document 02, paper 3: reads). In this order the compiler keeps them out of memory: of the
-// orders tried it is the fastest (docs/DECISIONS.md).
+// The counts of a run (document 01, "The tallies"; document 02, paper 3: reads). In this order the compiler keeps them out of memory
+// (docs/DECISIONS.md).
 pub struct Tally {
     pub looks: u32,
     pub shifts: u32,
