@@ -1,56 +1,65 @@
--- The rows stand one after the other in one list, which is compared with the constant as a whole; each row is then a part of it.
--- Assumes nothing.
-use mathlib.Core.Path.{_≡_, refl, sym, ap, ap₂, _∙_}
+-- Each row is a part of the table, with zeros behind it: the one test over all rows, carried to each of them. Assumes nothing.
+use mathlib.Core.Path.{_≡_, refl, ap₂}
 use mathlib.Core.Bool.{Bool, true, false, _&&_}
-use mathlib.Core.List.{List, [], _∷_, _++_}
-use Prim.Native.Nat.{ℕ, zero, suc, _+_, _-_, _*_, _≤_, _<_}
-use native.Mathlib.Nat.{add-zero, add-suc, suc-add}
+use mathlib.Core.List.{List, [], _∷_}
+use Prim.Native.Nat.{ℕ, zero, suc, _+_, _-_, _≤_, _<_}
+use native.Mathlib.Nat.{add-zero}
 use native.Mathlib.Omega.{arith}
-use borrow.Author.Tests.{eqb-true}
-use lib.Dec.{T, eqb}
-use lib.ListN.{take, drop}
-use lib.Seq.{take-at, drop-at, drop-drop}
+use lib.Dec.{T, eqb, leb, eqb→eq, leb→le}
+use lib.ListN.{length, take, drop}
 use Rattle.powers.specs.Powers.{powerRow}
-use Rattle.powers.proofs.Rule.{row-length}
+use Rattle.powers.specs.Stored.{padded, rowStart, rowEnd, equalLists, partStands, rowsStand}
 
--- the rows of K, K + 1, .., as many as are asked for
-abbrev pub rows : ℕ → ℕ → List ℕ
-rows K zero = []
-rows K (suc count) = powerRow K ++ rows (suc K) count
+both : (a b : Bool) → T (a && b) → T a × T b
+both true b t = (tt, t)
+both false b t = absurd t
 
-row-of : (count K k : ℕ) → k < count → take 21 (drop (k * 21) (rows K count)) ≡ powerRow (K + k)
-row-of zero K k h = absurd (omega arith)
-row-of (suc count) K zero h = take-at (powerRow K) (rows (suc K) count) 21 (row-length K) ∙ rw add-zero
-row-of (suc count) K (suc k) h =
-    let e : suc k * 21 ≡ 21 + k * 21 = omega arith in
-    let past : drop 21 (powerRow K ++ rows (suc K) count) ≡ rows (suc K) count =
-    drop-at (powerRow K) (rows (suc K) count) 21 (row-length K) in
-    ap (λ (n : ℕ). take 21 (drop n (rows K (suc count)))) e
-    ∙ ap (take 21) (sym (drop-drop (k * 21) 21 (rows K (suc count))) ∙ ap (drop (k * 21)) past)
-    ∙ row-of count (suc K) k (omega arith) ∙ rw (suc-add, add-suc)
+equal-is : (xs ys : List ℕ) → T (equalLists xs ys) → xs ≡ ys
+equal-is [] [] t = refl
+equal-is [] (y ∷ ys) t = absurd t
+equal-is (x ∷ xs) [] t = absurd t
+equal-is (x ∷ xs) (y ∷ ys) t =
+    let p = both (eqb x y) (equalLists xs ys) t in
+    ap₂ _∷_ (eqb→eq x y (p .0)) (equal-is xs ys (p .1))
 
--- ---- the constant is compared with the rows of K = 2 to 64, entry by entry, by one test that antt computes
+-- ---- what the test shows of one row
 
-abbrev pub same : List ℕ → List ℕ → Bool
-same [] [] = true
-same [] (y ∷ ys) = false
-same (x ∷ xs) [] = false
-same (x ∷ xs) (y ∷ ys) = eqb x y && same xs ys
+pub record Row (table : List ℕ) (first last K : ℕ) : Type 0 where
+  pub rising : first ≤ last
+  pub within : last ≤ length table
+  pub short : last - first ≤ 21
+  pub is : padded (take (last - first) (drop first table)) ≡ powerRow K
 
-same-is : (xs ys : List ℕ) → T (same xs ys) → xs ≡ ys
-same-is [] [] t = refl
-same-is [] (y ∷ ys) t = absurd t
-same-is (x ∷ xs) [] t = absurd t
-same-is (x ∷ xs) (y ∷ ys) t = go (eqb x y) refl t (same-is xs ys)
-  where
-    go : (b : Bool) → eqb x y ≡ b → T (b && same xs ys) → (T (same xs ys) → xs ≡ ys) → x ∷ xs ≡ y ∷ ys
-    go true e u rest = ap₂ _∷_ (eqb-true x y e) (rest u)
-    go false e u rest = absurd u
+row : (table : List ℕ) (first last K : ℕ) → T (partStands table first last K) → Row table first last K
+row table first last K t =
+    let rises = leb first last in
+    let ends = leb last (length table) in
+    let fits = leb (last - first) 21 in
+    let equal = equalLists (padded (take (last - first) (drop first table))) (powerRow K) in
+    let p = both rises (ends && (fits && equal)) t in
+    let q = both ends (fits && equal) (p .1) in
+    let r = both fits equal (q .1) in
+    record {
+      rising = leb→le first last (p .0);
+      within = leb→le last (length table) (q .0);
+      short = leb→le (last - first) 21 (r .0);
+      is = equal-is (padded (take (last - first) (drop first table))) (powerRow K) (r .1);
+    }
 
--- the part of the constant that starts where K's row does
-pub row-in : (table : List ℕ) → T (same table (rows 2 63)) → (K : ℕ) → 2 ≤ K → K ≤ 64
-    → take ((K - 2) * 21 + 21 - (K - 2) * 21) (drop ((K - 2) * 21) table) ≡ powerRow K
-row-in table t K low high =
-    let width : (K - 2) * 21 + 21 - (K - 2) * 21 ≡ 21 = omega arith in
-    ap₂ (λ (n : ℕ) (l : List ℕ). take n (drop ((K - 2) * 21) l)) width (same-is table (rows 2 63) t)
-    ∙ row-of 63 2 (K - 2) (omega arith) ∙ ap powerRow (omega arith)
+-- ---- the row of each K
+
+stands : (table starts : List ℕ) (K count k : ℕ) → T (rowsStand table starts K count) → k < count
+    → T (partStands table (rowStart starts (K + k)) (rowEnd starts (K + k)) (K + k))
+stands table starts K zero k t h = absurd (omega arith)
+stands table starts K (suc count) zero t h =
+    rw add-zero (both (partStands table (rowStart starts K) (rowEnd starts K) K) (rowsStand table starts (suc K) count) t .0)
+stands table starts K (suc count) (suc k) t h =
+    let here = partStands table (rowStart starts K) (rowEnd starts K) K in
+    let e : K + suc k ≡ suc K + k = omega arith in
+    rw e (stands table starts (suc K) count k (both here (rowsStand table starts (suc K) count) t .1) (omega arith))
+
+pub row-in : (table starts : List ℕ) → T (rowsStand table starts 2 63) → (K : ℕ) → 2 ≤ K → K ≤ 64
+    → Row table (rowStart starts K) (rowEnd starts K) K
+row-in table starts t K low high =
+    let e : 2 + (K - 2) ≡ K = omega arith in
+    row table (rowStart starts K) (rowEnd starts K) K (rw e at (stands table starts 2 63 (K - 2) t (omega arith)))
