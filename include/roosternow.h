@@ -236,7 +236,7 @@ void roosternow_one_level(uint32_t n, uint32_t ceiling, uint32_t source,
  * Needs: as roosternow_one_level, with ROOSTERNOW_WORK_TWO_LEVEL(n) words of work.
  * Gives: as roosternow_one_level, with distances, parents, r and decreases equal to its own, and ROOSTERNOW_WORK_TWO_LEVEL(n) work words 0.
  * Refuses: 1 to 6, 20, 7, 8, 9, then 10 with place 0 distances, 1 parents, 2 roster, 3 work; in this order, the first found.
- * Costs: time in proportion to n + m + r * (B + K) at most; stack below 8 KB.
+ * Costs: time in proportion to n + m + r * (B + K) at most; stack below 4 KB.
  */
 void roosternow_two_level(uint32_t n, uint32_t ceiling, uint32_t source, uint32_t segments,
                           const uint32_t *starts, size_t starts_words,
@@ -318,7 +318,7 @@ void roosternow_read_dimacs(const uint8_t *bytes, size_t bytes_length, uint32_t 
  *   and work what the two-level run leaves.
  * Refuses: in its text, 13 first (more than 65,536 bytes), then as roosternow_read with lists of these sizes. Output is then written, and
  *   no other list.
- * Costs: as roosternow_read, both runs and the text, at most 64 bytes for each node and 512; stack below 8 KB.
+ * Costs: as roosternow_read, both runs and the text, at most 64 bytes for each node and 512; stack below 4 KB.
  */
 size_t roosternow_answer(const uint8_t *bytes, size_t bytes_length,
                          uint32_t starts[ROOSTERNOW_LENT(ROOSTERNOW_ANSWER_STARTS)],
