@@ -17,14 +17,15 @@
  *   written where the pointer is not to const. A list of 0 elements may have a null pointer. `numbers` and the lists of fixed size are
  *   never null.
  * - A list that is written (a pointer not to const) overlaps no other list of the call. Lists that are only read may overlap.
- * - Words past those that a function fills are untouched. A refusal changes no word but `numbers` (roosternow_answer: but `output`).
+ * - Words and bytes past those that a function fills are untouched. A refusal changes none but `numbers` (roosternow_answer: but `output`).
  * - There is no state between calls and no global state. Calls may run in several threads at once, and in interrupt handlers, if no list
  *   that one of them writes is used by another at that time. A function calls nothing back, does not block and always returns.
  * - In an interrupt handler: the code of this archive, as disassembled, uses the general registers and xmm0 to xmm6 (SSE2), nothing of x87,
  *   MMX or AVX. So a handler saves the SSE registers before a call, and all vector registers if its `memset` uses wider ones, as that of a C
- *   library may. The checks of a run use the red zone: an interrupt of the handler itself leaves the 128 bytes below the stack pointer as they
- *   are, or has another stack. The stack is aligned to 16 bytes as for every call and has the bytes that the function's "Costs" name;
- *   `memset` is bound before, by a static link or `-z now`, since a dynamic linker that binds it in the call takes stack of its own.
+ *   library may. The checks of a map, in the runs and roosternow_write, use the red zone: an interrupt of the handler itself leaves the 128
+ *   bytes below the stack pointer as they are, or has another stack. The stack is aligned to 16 bytes as for every call and has the bytes
+ *   that the function's "Costs" name; `memset` is bound before, by a static link or `-z now`, since a dynamic linker that binds it in the
+ *   call takes stack of its own.
  * - A function refuses, with a number and a place, whatever it is not to work on (enum roosternow_refusal); nothing has to be checked by
  *   the caller but the rules above.
  * - r is the number of reached nodes, the source included, and B the number of buckets: ceil(log2(C + 1)) + 2 for the one-level heap, at
@@ -61,6 +62,10 @@
 #define ROOSTERNOW_WORK_TWO_LEVEL(n) (4u * (size_t)(n) + 384u)
 #define ROOSTERNOW_BY_NODE(n) ((size_t)(n))
 
+/* Bytes to lend to roosternow_write, enough for the planning file of every map of n nodes and m arcs: line 1 has at most 29 bytes, the line of
+   an arc 18 and that of a hold 8. */
+#define ROOSTERNOW_PLAN_BYTES(n, m) (29u + 18u * (size_t)(m) + 8u * (size_t)(n))
+
 /* Bytes of stack to have for roosternow_route on a map of n nodes. For a route of at most p nodes, and a table known to lead back to the
    source, ROOSTERNOW_ROUTE_STACK(p) is enough. Measured on x86-64 Linux (tests/c/stack), not proved. */
 #define ROOSTERNOW_ROUTE_STACK(n) (160u * (size_t)(n) + 1024u)
@@ -70,6 +75,7 @@
 #define ROOSTERNOW_ROUTE_NUMBERS 3
 #define ROOSTERNOW_READ_NUMBERS 7
 #define ROOSTERNOW_DIMACS_NUMBERS 4
+#define ROOSTERNOW_WRITE_NUMBERS 3
 
 /* The fixed sizes of roosternow_answer, and the most bytes that it takes. */
 #define ROOSTERNOW_ANSWER_STARTS 513
@@ -108,7 +114,9 @@ enum roosternow_number {
     ROOSTERNOW_ARCS = 3,
     ROOSTERNOW_CEILING = 4,
     ROOSTERNOW_SOURCE = 5,
-    ROOSTERNOW_SEGMENTS = 6
+    ROOSTERNOW_SEGMENTS = 6,
+    /* write */
+    ROOSTERNOW_LENGTH = 2 /* bytes of the file */
 };
 
 /* Refusals, in numbers[ROOSTERNOW_RETURNED]; the place is in numbers[ROOSTERNOW_PLACE], and 0 where none is named. */
@@ -133,7 +141,7 @@ enum roosternow_refusal {
     ROOSTERNOW_SHORT_ROUTE = 17,
     ROOSTERNOW_BAD_ROAD_LINE = 18,  /* roosternow_read_dimacs only; place: line from 1 */
     ROOSTERNOW_BAD_ROAD_ORDER = 19, /* roosternow_read_dimacs only; place: line from 1 */
-    ROOSTERNOW_BAD_HOLD = 20        /* place: least node; the runs: also 0 for a list that is not n words */
+    ROOSTERNOW_BAD_HOLD = 20        /* place: least node; the runs and roosternow_write: also 0 for a list that is not n words */
 };
 
 /* A refusal in words. */
@@ -309,6 +317,26 @@ void roosternow_read_dimacs(const uint8_t *bytes, size_t bytes_length, uint32_t 
                             uint32_t *heads, size_t heads_words,
                             uint32_t *costs, size_t costs_words,
                             uint64_t numbers[ROOSTERNOW_LENT(ROOSTERNOW_DIMACS_NUMBERS)]);
+
+/*
+ * The planning file of a map, as roosternow_read reads it.
+ *
+ * Needs: the map, C, source and K as roosternow_two_level takes them; bytes with room for the file, for which ROOSTERNOW_PLAN_BYTES(n, m) are
+ *   always enough. They do not have to be cleared.
+ * Gives: the file at the front of bytes; numbers: 0, 0, its length. Arcs stand by number. Line 1 has the sixth field, and lines of holds follow,
+ *   unless all holds are 0. The same map, C, source and K give the same bytes, whatever stood there before, and no others give these bytes.
+ *   roosternow_read accepts the file, gives back the same n, m, C, source and K, and fills the same starts, heads, costs and holds.
+ * Refuses: 1 to 6, 20, 7, 8, 9, then 10 with place 0 bytes; in this order, the first found. K is looked at though nothing is run, and before
+ *   the room. A refusal changes no byte, and tells no length.
+ * Costs: time in proportion to n and the bytes of the file, the lists gone through three times: checked, measured, written; stack below 1 KB.
+ */
+void roosternow_write(uint32_t n, uint32_t ceiling, uint32_t source, uint32_t segments,
+                      const uint32_t *starts, size_t starts_words,
+                      const uint32_t *heads, size_t heads_words,
+                      const uint32_t *costs, size_t costs_words,
+                      const uint32_t *holds, size_t holds_words,
+                      uint8_t *bytes, size_t bytes_length,
+                      uint64_t numbers[ROOSTERNOW_LENT(ROOSTERNOW_WRITE_NUMBERS)]);
 
 /*
  * The text that the program `plan` prints for a planning file: both runs, with distances and parents, or one line `refused,NUMBER,PLACE`.

@@ -1,6 +1,6 @@
 /*
  * Calls every function of roosternow.h on valid and damaged inputs, and compares each answer and each lent word with plain.h. Guard bytes
- * stand before and behind every list. Use: calls [INPUTS [SEED]]
+ * stand before and behind every list. Files that are accepted are read, written and read again. Use: calls [INPUTS [SEED]] [-- FILE..]
  */
 #include "plain.h"
 #include "roosternow.h"
@@ -23,11 +23,11 @@ static bool one_in(uint32_t chances) {
 
 /* ---- what was called */
 
-enum function { ONE_LEVEL, TWO_LEVEL, ROUTE, READ, READ_DIMACS, ANSWER, FUNCTIONS };
+enum function { ONE_LEVEL, TWO_LEVEL, ROUTE, READ, READ_DIMACS, WRITE, ANSWER, FUNCTIONS };
 
 #define REFUSALS 21
 
-static const char *const names[FUNCTIONS] = {"one_level", "two_level", "route", "read", "read_dimacs", "answer"};
+static const char *const names[FUNCTIONS] = {"one_level", "two_level", "route", "read", "read_dimacs", "write", "answer"};
 static uint64_t told[FUNCTIONS][REFUSALS], told_held[FUNCTIONS], told_sums[FUNCTIONS];
 static uint64_t input;
 
@@ -94,19 +94,20 @@ static void compare(const struct list *list, const void *expected, size_t filled
     expect(memcmp(list->base + GUARD + done, list->before + done, bytes - done) == 0, what);
 }
 
-static struct list starts, heads, costs, holds, distances, parents, roster, work, route, bytes, output, run_numbers, route_numbers;
+static struct list starts, heads, costs, holds, distances, parents, roster, work, route, bytes, written, output, run_numbers, route_numbers;
 
 static void make_lists(void) {
     starts = make(4, PLAIN_NODES + 8), heads = make(4, PLAIN_ARCS + 8), costs = make(4, PLAIN_ARCS + 8), holds = make(4, PLAIN_NODES + 8);
     distances = make(4, PLAIN_NODES + 8), parents = make(4, PLAIN_NODES + 8), roster = make(4, PLAIN_NODES + 8);
     work = make(4, 4 * PLAIN_NODES + 400), route = make(4, PLAIN_NODES + 8);
-    bytes = make(1, 36 * (PLAIN_ARCS + 8)), output = make(1, ROOSTERNOW_ANSWER_BYTES);
+    bytes = make(1, 36 * (PLAIN_ARCS + 8)), written = make(1, ROOSTERNOW_PLAN_BYTES(PLAIN_NODES, PLAIN_ARCS) + 64);
+    output = make(1, ROOSTERNOW_ANSWER_BYTES);
     run_numbers = make(8, ROOSTERNOW_RUN_NUMBERS), route_numbers = make(8, ROOSTERNOW_ROUTE_NUMBERS);
 }
 
 static void free_lists(void) {
     struct list *all[] = {&starts, &heads, &costs, &holds, &distances, &parents, &roster,
-                          &work, &route, &bytes, &output, &run_numbers, &route_numbers};
+                          &work, &route, &bytes, &written, &output, &run_numbers, &route_numbers};
     for (size_t i = 0; i < sizeof all / sizeof all[0]; i++) free(all[i]->base), free(all[i]->before);
 }
 
@@ -426,6 +427,132 @@ static void call_read(uint32_t damage) {
     compare(&holds, file.holds, accepted ? file.n : 0, "read: holds");
 }
 
+/* ---- planning files written */
+
+static char plan_file[24 * (PLAIN_ARCS + PLAIN_NODES + 8)];
+
+/* Just the length, one byte fewer, none or any number below, the most that a map of this size takes, or any number more. */
+static size_t some_room(size_t length) {
+    switch (below(5)) {
+    case 0: return length;
+    case 1: return length - 1;
+    case 2: return one_in(2) ? 0 : below((uint32_t)length);
+    case 3: return ROOSTERNOW_PLAN_BYTES(map.n, heads.length);
+    default: return length + 1 + below(40);
+    }
+}
+
+/* The map of the lists into a buffer of junk with so much room; `length` is that of its file. */
+static bool call_write(struct plain_fault fault, size_t length, size_t room) {
+    uint64_t *numbers = lend_numbers(&route_numbers, ROOSTERNOW_WRITE_NUMBERS);
+    if (fault.number == 0 && room < length) fault = plain_fault(10, 0);
+    bool accepted = fault.number == 0;
+    uint64_t expected[ROOSTERNOW_WRITE_NUMBERS] = {fault.number, fault.place, accepted ? length : 0};
+    lend(&written, room), keep(&written);
+    uint8_t *buffer = room == 0 && one_in(2) ? NULL : bytes_of(&written);
+    roosternow_write(map.n, map.ceiling, map.source, segments, words_or_null(&starts), starts.length, words_or_null(&heads), heads.length,
+                     words_or_null(&costs), costs.length, words_or_null(&holds), holds.length, buffer, room, numbers);
+    told[WRITE][fault.number]++;
+    compare(&route_numbers, expected, ROOSTERNOW_WRITE_NUMBERS, "write: numbers");
+    compare_map();
+    compare(&written, plan_file, accepted ? length : 0, "write: bytes");
+    return accepted;
+}
+
+/* What was written is read to the same numbers and the same lists, and these are written to the same bytes. */
+static void expect_read_back(size_t length) {
+    static struct plain_file back;
+    static uint8_t again[sizeof plan_file];
+    size_t n = map.n, m = heads.length;
+    uint64_t numbers[ROOSTERNOW_READ_NUMBERS], expected[ROOSTERNOW_READ_NUMBERS] = {0, 0, n, m, map.ceiling, map.source, segments};
+    roosternow_read(bytes_of(&written), length, back.starts, n + 1, back.heads, m, back.costs, m, back.holds, n, numbers);
+    expect(memcmp(numbers, expected, sizeof expected) == 0, "write: other numbers are read back");
+    expect(memcmp(back.starts, map.starts, 4 * (n + 1)) == 0, "write: other starts are read back");
+    expect(memcmp(back.heads, map.heads, 4 * m) == 0, "write: other heads are read back");
+    expect(memcmp(back.costs, map.costs, 4 * m) == 0, "write: other costs are read back");
+    expect(memcmp(back.holds, map.holds, 4 * n) == 0, "write: other holds are read back");
+    roosternow_write((uint32_t)numbers[ROOSTERNOW_NODES], (uint32_t)numbers[ROOSTERNOW_CEILING], (uint32_t)numbers[ROOSTERNOW_SOURCE],
+                     (uint32_t)numbers[ROOSTERNOW_SEGMENTS], back.starts, n + 1, back.heads, m, back.costs, m, back.holds, n, again, length,
+                     numbers);
+    expect(numbers[ROOSTERNOW_RETURNED] == 0 && numbers[ROOSTERNOW_LENGTH] == length, "write: what was read back has another length");
+    expect(memcmp(again, bytes_of(&written), length) == 0, "write: what was read back has other bytes");
+}
+
+static bool has_hold(void) {
+    for (size_t v = 0; v < holds.length; v++) {
+        if (words_of(&holds)[v] != 0) return true;
+    }
+    return false;
+}
+
+static void write_map(void) {
+    struct plain_fault fault = plain_write_check(&map, segments);
+    bool valid = fault.number == 0;
+    size_t length = valid ? plain_plan_file(&map, segments, plan_file, sizeof plan_file) : 0;
+    expect(!valid || length <= ROOSTERNOW_PLAN_BYTES(map.n, heads.length), "ROOSTERNOW_PLAN_BYTES: too few");
+    if (!call_write(fault, length, valid ? some_room(length) : below(200))) return;
+    told_held[WRITE] += has_hold();
+    expect_read_back(length);
+}
+
+/* Every number has as many digits as it can have, but for holds: with 0, and with a cost of 7 digits beside a hold of 5. */
+static void write_largest(uint32_t hold, uint32_t last_hold, size_t length) {
+    lend(&starts, PLAIN_NODES + 1), lend(&heads, PLAIN_ARCS), lend(&costs, PLAIN_ARCS), lend(&holds, PLAIN_NODES);
+    map.n = PLAIN_NODES, map.ceiling = 1048575, map.source = PLAIN_NODES - 1, segments = 64;
+    for (uint32_t v = 0; v < PLAIN_NODES; v++) words_of(&starts)[v] = 0, words_of(&holds)[v] = hold;
+    words_of(&starts)[PLAIN_NODES] = PLAIN_ARCS, words_of(&holds)[PLAIN_NODES - 1] = last_hold;
+    for (uint32_t a = 0; a < PLAIN_ARCS; a++) words_of(&heads)[a] = PLAIN_NODES - 1, words_of(&costs)[a] = 1000000;
+    settle_map();
+    expect(plain_plan_file(&map, segments, plan_file, sizeof plan_file) == length, "plain.h: a largest file has another length");
+    expect(length <= ROOSTERNOW_PLAN_BYTES(PLAIN_NODES, PLAIN_ARCS), "ROOSTERNOW_PLAN_BYTES: too few for a largest file");
+    expect(!call_write(plain_fault(0, 0), length, length - 1), "write: a largest file in a byte too few");
+    expect(call_write(plain_fault(0, 0), length, length), "write: a largest file");
+    expect_read_back(length);
+}
+
+/* The map of a file into the lists, just as long as it takes them; false if it is refused. */
+static bool read_named(const char *name) {
+    uint64_t numbers[ROOSTERNOW_READ_NUMBERS];
+    FILE *stream = fopen(name, "rb");
+    expect(stream != NULL, name);
+    lend(&bytes, bytes.capacity);
+    bytes.length = fread(bytes_of(&bytes), 1, bytes.capacity, stream);
+    fclose(stream);
+    expect(bytes.length < bytes.capacity, "a file is too long for the test");
+    lend(&starts, PLAIN_NODES + 1), lend(&heads, PLAIN_ARCS), lend(&costs, PLAIN_ARCS), lend(&holds, PLAIN_NODES);
+    roosternow_read(bytes_of(&bytes), bytes.length, words_of(&starts), starts.length, words_of(&heads), heads.length, words_of(&costs),
+                    costs.length, words_of(&holds), holds.length, numbers);
+    if (numbers[ROOSTERNOW_RETURNED] != 0) return false;
+    map.n = (uint32_t)numbers[ROOSTERNOW_NODES], map.ceiling = (uint32_t)numbers[ROOSTERNOW_CEILING];
+    map.source = (uint32_t)numbers[ROOSTERNOW_SOURCE], segments = (uint32_t)numbers[ROOSTERNOW_SEGMENTS];
+    starts.length = (size_t)map.n + 1, holds.length = map.n, heads.length = costs.length = numbers[ROOSTERNOW_ARCS];
+    settle_map();
+    return true;
+}
+
+/* Every file that is accepted is written as it was, unless it tells holds that are all 0, which are left out; and it is read back. */
+static void write_named(int count, char **names) {
+    static const size_t enough[4] = {PLAIN_NODES + 1, PLAIN_ARCS, PLAIN_ARCS, PLAIN_NODES};
+    uint64_t accepted = 0, shorter = 0;
+    for (int i = 0; i < count; i++) {
+        bool valid = read_named(names[i]);
+        expect((plain_read(bytes_of(&bytes), bytes.length, enough, &file).number == 0) == valid, names[i]);
+        if (!valid) continue;
+        bool left_out = file.held && !has_hold();
+        size_t length = plain_plan_file(&map, segments, plan_file, sizeof plan_file);
+        expect(call_write(plain_fault(0, 0), length, length), names[i]);
+        bool same = length == bytes.length && memcmp(bytes_of(&written), bytes_of(&bytes), length) == 0;
+        expect(same != left_out, names[i]);
+        expect_read_back(length);
+        accepted++, shorter += left_out;
+    }
+    if (count > 0) {
+        printf("%d files: %" PRIu64 " accepted, each read, written, read again and written again: the same numbers, lists and bytes; %" PRIu64
+               " without the holds of 0 that it told, the others as they were\n",
+               count, accepted, shorter);
+    }
+}
+
 /* ---- road files */
 
 /* A text behind what the file has. */
@@ -587,7 +714,7 @@ static void call_from_threads(void) {
 
 /* Every refusal that a function can make has to be seen, as rows of the documents' table. */
 static void report(uint64_t inputs) {
-    static const uint32_t possible[FUNCTIONS] = {0x1005FF, 0x1007FF, 0x3C4FB, 0x101F9F, 0xC1597, 0x103F9F};
+    static const uint32_t possible[FUNCTIONS] = {0x1005FF, 0x1007FF, 0x3C4FB, 0x101F9F, 0xC1597, 0x1007FF, 0x103F9F};
     for (int function = 0; function < FUNCTIONS; function++) {
         uint64_t calls = 0;
         printf("%-11s", names[function]);
@@ -603,6 +730,8 @@ static void report(uint64_t inputs) {
         expect(calls >= inputs, "too few calls");
         bool planning = inputs >= 100000 && (function == READ || function == ANSWER);
         expect(!planning || (told_held[function] && told_sums[function]), "no file with holds, or none with a sum above its ceiling");
+        bool both = told_held[WRITE] > 0 && told_held[WRITE] < told[WRITE][0];
+        expect(inputs < 100000 || both, "no file written with holds, or none without");
     }
 }
 
@@ -624,39 +753,47 @@ static uint64_t number_of(const char *word) {
     return word[digits] == 0 && word[0] != '0' && digits <= 18 ? strtoull(word, NULL, 10) : 0;
 }
 
+/* Every function on maps and files drawn anew. */
+static void call_all(bool large) {
+    draw_some_map(large);
+    while (!large && one_in(3)) damage_map();
+    settle_map();
+    call_run(false, large ? 1000000 : 12);
+    call_route(6);
+    call_run(true, large ? 1000000 : 12);
+    call_route(6);
+    write_map();
+    draw_some_map(large);
+    while (!large && one_in(4)) damage_map();
+    draw_file(2);
+    call_read(16);
+    draw_some_map(large);
+    while (!large && one_in(4)) damage_map();
+    write_road();
+    call_read_dimacs(16);
+    draw_map_for_answer();
+    draw_file(3);
+    call_answer();
+}
+
 int main(int count, char **words) {
-    uint64_t inputs = count > 1 ? number_of(words[1]) : 100000;
-    state = count > 2 ? number_of(words[2]) : UINT64_C(88172645463325252);
-    if (count > 3 || inputs == 0 || state == 0) {
-        fprintf(stderr, "use: calls [INPUTS [SEED]], numbers from 1 of at most 18 digits\n");
+    int files = 1;
+    while (files < count && strcmp(words[files], "--") != 0) files++;
+    uint64_t inputs = files > 1 ? number_of(words[1]) : 100000;
+    state = files > 2 ? number_of(words[2]) : UINT64_C(88172645463325252);
+    if (files > 3 || inputs == 0 || state == 0) {
+        fprintf(stderr, "use: calls [INPUTS [SEED]] [-- FILE..], numbers from 1 of at most 18 digits\n");
         return 2;
     }
     expect(roosternow_version() == ROOSTERNOW_VERSION, "the archive is of another version than its header");
     expect_operations();
     make_lists();
-    for (input = 0; input < inputs; input++) {
-        bool large = input % 10000 == 0;
-        draw_some_map(large);
-        while (!large && one_in(3)) damage_map();
-        settle_map();
-        call_run(false, large ? 1000000 : 12);
-        call_route(6);
-        call_run(true, large ? 1000000 : 12);
-        call_route(6);
-        draw_some_map(large);
-        while (!large && one_in(4)) damage_map();
-        draw_file(2);
-        call_read(16);
-        draw_some_map(large);
-        while (!large && one_in(4)) damage_map();
-        write_road();
-        call_read_dimacs(16);
-        draw_map_for_answer();
-        draw_file(3);
-        call_answer();
-    }
+    for (input = 0; input < inputs; input++) call_all(input % 10000 == 0);
     call_from_threads();
     report(inputs);
+    write_largest(0, 0, 1179675);
+    write_largest(1000000, 10000, 1212443);
+    write_named(files < count ? count - files - 1 : 0, words + files + 1);
     printf("%" PRIu64 " inputs: every answer and every lent word as expected, every guard untouched\n", inputs);
     free_lists();
     return 0;

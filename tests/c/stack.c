@@ -12,7 +12,7 @@ enum { NODES = 4096, STACK = 2 << 20, MARK = 0xa5, FILE_NODES = 512, FILE_ARCS =
 static uint32_t starts[NODES + 1], heads[NODES], costs[NODES], holds[NODES];
 static uint32_t distances[NODES], parents[NODES], roster[NODES], work[ROOSTERNOW_WORK_TWO_LEVEL(NODES)], route[NODES];
 static uint64_t numbers[ROOSTERNOW_RUN_NUMBERS];
-static uint8_t file[65536], output[ROOSTERNOW_ANSWER_BYTES];
+static uint8_t file[65536], output[ROOSTERNOW_ANSWER_BYTES], written[ROOSTERNOW_PLAN_BYTES(NODES, NODES)];
 static size_t file_length;
 static uintptr_t frame;
 
@@ -33,6 +33,13 @@ __attribute__((noinline)) static void *call_two_level(void *unused) {
 __attribute__((noinline)) static void *call_route(void *unused) {
     frame = (uintptr_t)__builtin_frame_address(0);
     roosternow_route(NODES, 0, starts, NODES + 1, heads, NODES - 1, parents, NODES, NODES - 1, route, NODES, numbers);
+    return unused;
+}
+
+__attribute__((noinline)) static void *call_write(void *unused) {
+    frame = (uintptr_t)__builtin_frame_address(0);
+    roosternow_write(NODES, 1048575, 0, 64, starts, NODES + 1, heads, NODES - 1, costs, NODES - 1, holds, NODES, written, sizeof written,
+                     numbers);
     return unused;
 }
 
@@ -71,7 +78,7 @@ static size_t taken(void *(*call)(void *)) {
 }
 
 /* A chain, so that the route to its last node passes through all. Holds leave nothing of the ceiling, so that no look at all costs at once
-   settles refusal 8, and each sum is looked at. */
+   settles refusal 8, and each sum is looked at. Some costs and holds have seven digits, so that the writer goes as deep as it can. */
 static void lay_chain(void) {
     for (uint32_t v = 0; v < NODES; v++) starts[v] = v;
     starts[NODES] = NODES - 1;
@@ -110,6 +117,7 @@ int main(void) {
     print("roosternow_one_level", call_one_level);
     print("roosternow_two_level", call_two_level);
     print("roosternow_route", call_route);
+    print("roosternow_write", call_write);
     write_file();
     print("roosternow_read", call_read);
     print("roosternow_answer", call_answer);

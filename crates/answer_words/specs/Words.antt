@@ -6,6 +6,7 @@ use Rattle.model.specs.Answers.{Numbers}
 use Rattle.route.specs.Routes.{RouteNumbers}
 use Rattle.reader.specs.Promise.{PlanNumbers}
 use Rattle.dimacs.specs.Promise.{DimacsNumbers}
+use Rattle.writer.specs.Promise.{WriteNumbers}
 
 -- The counts: decreases, placements, looks and reads (document 01, "The tallies"; document 02, paper 3).
 abbrev pub countsAsWords : Counts → List ℕ
@@ -29,3 +30,7 @@ readWords numbers =
 -- Number and place, then n and m (document 02, paper 1).
 abbrev pub dimacsWords : DimacsNumbers → List ℕ
 dimacsWords numbers = numbers .returned ∷ numbers .place ∷ numbers .nodes ∷ numbers .arcs ∷ []
+
+-- Number and place, then the length of the file (document 02, paper 5).
+abbrev pub writeWords : WriteNumbers → List ℕ
+writeWords numbers = numbers .returned ∷ numbers .place ∷ numbers .length ∷ []

@@ -3,12 +3,14 @@ use dimacs::DimacsAnswer;
 use model::RunAnswer;
 use reader::PlanAnswer;
 use route::RouteAnswer;
+use writer::WriteAnswer;
 ghost use mathlib.Core.Path.{_≡_};
 ghost use Rattle.model.specs.Answers.{numbersOf};
 ghost use Rattle.route.specs.Routes.{routeNumbersOf};
 ghost use Rattle.reader.specs.Promise.{planNumbersOf};
 ghost use Rattle.dimacs.specs.Promise.{dimacsNumbersOf};
-ghost use Rattle.answer_words.specs.Words.{runWords, routeWords, readWords, dimacsWords};
+ghost use Rattle.writer.specs.Promise.{writeNumbersOf};
+ghost use Rattle.answer_words.specs.Words.{runWords, routeWords, readWords, dimacsWords, writeWords};
 
 pub fn run_words(answer: RunAnswer) -> [u64; 8]
     ensures { λ r. ⌜ r ≡ runWords (numbersOf answer) ⌝ }
@@ -70,5 +72,14 @@ pub fn dimacs_words(answer: DimacsAnswer) -> [u64; 4]
     match answer {
         DimacsAnswer::Read { nodes, arcs } => [0, 0, nodes as u64, arcs as u64],
         DimacsAnswer::Refused { number, place } => [number as u64, place as u64, 0, 0],
+    }
+}
+
+pub fn write_words(answer: WriteAnswer) -> [u64; 3]
+    ensures { λ r. ⌜ r ≡ writeWords (writeNumbersOf answer) ⌝ }
+{
+    match answer {
+        WriteAnswer::Written { length } => [0, 0, length as u64],
+        WriteAnswer::Refused { number, place } => [number as u64, place as u64, 0],
     }
 }

@@ -18,7 +18,7 @@ unfolding faultIf
 passed-test number place true e = absurd (let z : _≡_ {A = ℕ} 0 1 = cc in omega arith)
 passed-test number place false e = refl
 
-test-passes : (number place : ℕ) {fails : Bool} → fails ≡ false → faultIf number place fails ≡ Passed
+pub test-passes : (number place : ℕ) {fails : Bool} → fails ≡ false → faultIf number place fails ≡ Passed
 unfolding faultIf
 test-passes number place e = rw e
 

@@ -72,6 +72,12 @@ pub decimal-tenth : (value : ℕ) → value < 2 ^ 64 → 10 ≤ value → decima
 decimal-tenth value below l =
     by-tenth 18 value l ∙ ap (λ (l : List ℕ). l ++ ((48 + value % 10) ∷ [])) (sym (digits-enough 18 (value / 10) (omega arith)))
 
--- the digits of a word of 64 bits without the last are 19 at the most
-pub tenth-most : (value : ℕ) → value < 2 ^ 64 → length (decimal (value / 10)) ≤ 19
-tenth-most value below = omega (arith, ap length (digits-enough 18 (value / 10) (omega arith)), digits-most 18 (value / 10))
+pub decimal-tenth-length : (value : ℕ) → value < 2 ^ 64 → 10 ≤ value → length (decimal value) ≡ length (decimal (value / 10)) + 1
+decimal-tenth-length value below l = ap length (decimal-tenth value below l) ∙ length-append (decimal (value / 10)) _
+
+-- a number has one digit at least, and just one where it is below ten
+pub decimal-least : (value : ℕ) → 1 ≤ length (decimal value)
+decimal-least value = digits-least 19 value
+
+pub one-digit-length : (value : ℕ) → value < 10 → length (decimal value) ≡ 1
+one-digit-length value l = ap length (one-digit 19 value l)

@@ -1,14 +1,14 @@
 -- What was rendered is read back as it was: a number below 10^7, and a line of such numbers. Assumes nothing.
 use mathlib.Core.Path.{_≡_, refl, ap}
-use mathlib.Core.Bool.{true, false}
-use mathlib.Core.Logic.{inl, inr}
+use mathlib.Core.Bool.{true, false, and-false}
+use mathlib.Core.Logic.{_≢_, inl, inr}
 use mathlib.Core.List.{List, [], _∷_, _++_, append-assoc}
 use Prim.Native.Nat.{ℕ, zero, suc, _+_, _-_, _*_, _^_, _/_, _%_, _≤_, _<_}
 use native.Mathlib.Omega.{arith}
 use lib.ListN.{length, getD, drop, replicate, length-append, length-replicate, List·getD-append}
 use lib.Seq.{getD-append-seam, drop-append-add}
 use borrow.Author.Tests.{le-leb, eq-eqb, ne-eqb}
-use Rattle.fields.specs.declared.Field.the-variants.{Value}
+use Rattle.fields.specs.declared.Field.the-variants.{NoField, Value}
 use Rattle.fields.specs.Fields.{isDigit, digits, numberFrom, isField, field, Numbers, fields}
 use Rattle.fields.specs.Fields.{lineFeed, lineEnds, line, decimalBy, decimal, renderFields, renderLine}
 use Rattle.fields.proofs.Decimals.{by-digits, one-digit, by-tenth, digits-least, tenth-length, tenth-below}
@@ -71,7 +71,7 @@ first-digit (suc places) value l h = elim (by-digits value) [
 ]
 
 -- A number below a power of ten has no more digits than the power.
-digits-below : (places most value : ℕ) → value < 10 ^ suc most → length (decimalBy places value) ≤ suc most
+pub digits-below : (places most value : ℕ) → value < 10 ^ suc most → length (decimalBy places value) ≤ suc most
 unfolding decimalBy
 digits-below zero most value l = omega arith
 digits-below (suc places) zero value l = omega (arith, ap length (one-digit (suc places) value (omega arith)))
@@ -103,6 +103,18 @@ number-decimal end e value l rest =
       getD-append-seam (decimal value) end rest 256,
       eq-eqb end end refl,
       number-read 19 value (omega arith),
+    )
+
+-- A number that another byte ends is no field.
+pub number-other : (end other : ℕ) → isDigit other ≡ false → other ≢ end → (value : ℕ) (rest : List ℕ)
+    → field end (decimal value ++ (other ∷ rest)) ≡ NoField
+unfolding field
+number-other end other e away value rest =
+    rw (
+      digits-read other e (decimal-digits 19 value) rest,
+      getD-append-seam (decimal value) other rest 256,
+      ne-eqb other end away,
+      and-false (isField (decimal value)),
     )
 
 -- No end is a digit.

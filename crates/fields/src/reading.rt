@@ -56,7 +56,7 @@ pub fn line_at(bytes: &[u8], at: usize, separator: u8, values: &mut [u32]) -> Li
 }
 
 // What ends field i of so many.
-fn end_of(i: usize, count: usize, separator: u8) -> u8
+pub fn end_of(i: usize, count: usize, separator: u8) -> u8
     requires { ⌜ i < count ⌝ }
     ensures end { λ r. ⌜ r ≡ getD (lineEnds separator count) i 0 ⌝ }
     ensures byte { λ r. ⌜ r < 256 ⌝ }

@@ -3,6 +3,5 @@ mod Holds
 mod Lists
 mod Passed
 mod Progress
-pub mod Rendered
 pub mod Runnable
 pub mod Told

@@ -27,12 +27,12 @@ fault-told (Fault k at) header number place e f =
     let same-place : place ≡ at = ap (λ (n : PlanNumbers). n .place) f in
     rw (same-number, same-place) refl
 
-passed-told : (check : Check) → true ≡ allPassed check → check ≡ Passed
+pub passed-told : (check : Check) → true ≡ allPassed check → check ≡ Passed
 passed-told Passed e = refl
 passed-told (Fault k at) e = differ (cc)
 
 -- What a list was filled with stands at its front.
-front : (filled words : List ℕ) {words′ : List ℕ} (k : ℕ) → words′ ≡ wordsAfter Passed filled words → length filled ≡ k → (take k words′ ≡ filled) × (k ≤ length words′)
+pub front : (filled words : List ℕ) {words′ : List ℕ} (k : ℕ) → words′ ≡ wordsAfter Passed filled words → length filled ≡ k → (take k words′ ≡ filled) × (k ≤ length words′)
 front filled words k e l =
     let rest = drop (length filled) words in
     (ap (take k) e ∙ take-at filled rest k l, omega (arith, ap length e, length-append filled rest, l))

@@ -1,4 +1,3 @@
 pub mod Plans
 pub mod Promise
-pub mod Rendering
 pub mod Filling

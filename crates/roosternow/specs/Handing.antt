@@ -13,7 +13,9 @@ use Rattle.reader.specs.declared.PlanAnswer.{PlanAnswer}
 use Rattle.reader.specs.Promise.{planNumbersOf, PlanPromised}
 use Rattle.dimacs.specs.declared.DimacsAnswer.{DimacsAnswer}
 use Rattle.dimacs.specs.Promise.{dimacsNumbersOf, DimacsPromised}
-use Rattle.answer_words.specs.Words.{runWords, routeWords, readWords, dimacsWords}
+use Rattle.writer.specs.declared.WriteAnswer.{WriteAnswer}
+use Rattle.writer.specs.Promise.{writeNumbersOf, WritePromised}
+use Rattle.answer_words.specs.Words.{runWords, routeWords, readWords, dimacsWords, writeWords}
 
 -- The version of the archive, MAJOR × 1000 + MINOR: ROOSTERNOW_VERSION of its header.
 abbrev pub archiveVersion : ℕ
@@ -50,3 +52,9 @@ pub record DimacsHanded (bytes : List ℕ) (C : ℕ) (starts heads costs starts�
   pub answer : DimacsAnswer
   pub promised : DimacsPromised bytes C starts heads costs starts′ heads′ costs′ answer
   pub numbers : numbers′ ≡ dimacsWords (dimacsNumbersOf answer)
+
+-- The writer: its promise, and the numbers of its answer (document 02, paper 5).
+pub record WriteHanded (I : Inputs) (K : ℕ) (bytes bytes′ numbers′ : List ℕ) : Type 0 where
+  pub answer : WriteAnswer
+  pub promised : WritePromised I K bytes bytes′ answer
+  pub numbers : numbers′ ≡ writeWords (writeNumbersOf answer)

@@ -1,6 +1,7 @@
 // The interface for C (include/roosternow.h): each function hands numbers and lists to an entry point, and writes what it answers to a
 // lent array of fixed size (document 01, "What a call returns").
 mod text;
+mod writing;
 
 use answer_words::dimacs_words;
 use answer_words::read_words;

@@ -1,13 +1,13 @@
 // The rows that call the planner. Lists are lent with words of no meaning in them, and all their words go into the sums that are printed,
 // so that every word written or left shows.
-use crate::lists::COSTS;
-use crate::lists::HEADS;
-use crate::lists::HOLDS;
-use crate::lists::PARENTS;
-use crate::lists::part;
 use model::Node;
 use test_rows::bytes::made;
 use test_rows::lists::front;
+use test_rows::map::COSTS;
+use test_rows::map::HEADS;
+use test_rows::map::HOLDS;
+use test_rows::map::PARENTS;
+use test_rows::map::part;
 use test_rows::printing::print_byte_sums;
 use test_rows::printing::print_sums;
 use test_rows::rows::Row;

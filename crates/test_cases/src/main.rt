@@ -1,13 +1,13 @@
 // The planner on fixed cases, which stand in standard input, a row for each step (document 01, "What a call returns" and "Edges", and
 // document 02, papers 2 and 3). Standard output repeats every row and has behind it what the row gave. The head of crates/test_cases/stdin says
 // what each row is.
-use lists::Map;
 use planning_file::File;
 use test_rows::bytes;
+use test_rows::map;
+use test_rows::map::Map;
 use test_rows::rows;
 
 mod calls;
-mod lists;
 mod planning_file;
 mod printing;
 
@@ -17,8 +17,8 @@ fn act(line: &[u8], map: &mut Map, file: &mut File, written: usize) -> usize {
     let row = rows::row_of(line);
     let word = row.word;
     match word {
-        b'w' => lists::put_words(map, row, line),
-        b'f' | b'd' => lists::spread(map, row),
+        b'w' => map::put_words(map, row, line),
+        b'f' | b'd' => map::spread(map, row),
         b'o' | b't' | b'r' => calls::call(row, map),
         b'p' => calls::plan(bytes::made(file, written)),
         b'i' => calls::read(row, bytes::made(file, written)),

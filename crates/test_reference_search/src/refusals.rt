@@ -43,7 +43,7 @@ fn first_above(lists: &Lists, list: u64, count: u64, most: u64) -> u64 {
 }
 
 // The tail of an arc, which is no node before the first.
-fn tail_from(n: u64, lists: &Lists, first: u64, arc: u64) -> u64 {
+pub fn tail_from(n: u64, lists: &Lists, first: u64, arc: u64) -> u64 {
     let mut v = first;
     while v < n {
         if arc < map::start(lists, words::sum(v, 1)) {

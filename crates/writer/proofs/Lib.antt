@@ -1,0 +1,4 @@
+pub mod Answered
+pub mod Marked
+mod Zero
+pub mod Theorems
