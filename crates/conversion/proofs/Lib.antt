@@ -1,0 +1,4 @@
+mod Writing
+mod Reading
+pub mod Answering
+pub mod Theorems
