@@ -2,8 +2,8 @@
 -- can be. Assumes nothing.
 use Prim.Native.Nat.{ℕ, _+_, _*_, _≤_}
 use native.Mathlib.Omega.{arith}
-use mathlib.Core.Path.{_≡_, sym, ap, subst, _∙_}
-use mathlib.Core.List.{List, [], _∷_}
+use mathlib.Core.Path.{_≡_, refl, sym, ap, subst, _∙_}
+use mathlib.Core.List.{List, [], _∷_, _++_, append-assoc}
 use lib.ListN.{length, take, drop}
 use lib.Seq.{take-at}
 use Rattle.model.specs.declared.Check.{Check}
@@ -12,9 +12,9 @@ use Rattle.theory.specs.Maps.{arcs}
 use Rattle.theory.specs.Runs.{Inputs}
 use Rattle.check_numbers.specs.Numbers.{segmentsCheck}
 use Rattle.checks.specs.Checks.{firstFault, mapChecks, lentChecks}
-use Rattle.checks.proofs.Order.{none, more, all-passed, passed-all, first-passed, pass-parts, parts-pass}
-use Rattle.checks.proofs.Sizes.{passed-range, range-passes, lent-passes}
-use Rattle.checks.proofs.Valid.{passed-valid, valid-passed}
+use Rattle.checks.proofs.Order.{none, more, all-passed, pass-parts, parts-pass}
+use Rattle.checks.proofs.Sizes.{range-passes, lent-passes}
+use Rattle.checks.proofs.Valid.{valid-passed}
 use Rattle.reader.specs.declared.PlanAnswer.{PlanAnswer}
 use Rattle.reader.specs.Promise.{PlanPromised}
 use Rattle.reader.proofs.Told.{passed-told}
@@ -24,6 +24,7 @@ use Rattle.plan_text.proofs.Files.{read-back, file-most}
 use Rattle.plan_text.proofs.Agree.{files-agree, agree-files}
 use Rattle.writer.specs.declared.WriteAnswer.the-variants.{Written}
 use Rattle.writer.specs.Promise.{WriteNumbers, writeChecks, Writable, WriteAnswered, WritePromised}
+use Rattle.writer.proofs.Answered.{found-writable}
 
 -- ---- a call that is not refused
 
@@ -31,12 +32,8 @@ use Rattle.writer.specs.Promise.{WriteNumbers, writeChecks, Writable, Wr
 accepted-writable : (I : Inputs) (K room : ℕ) → firstFault (writeChecks I K room) ≡ Passed → Writable I K
 unfolding writeChecks
 accepted-writable I K room e =
-    let p = pass-parts (mapChecks I) _ e in
-    let q = pass-parts (segmentsCheck K ∷ []) _ (p .1) in
-    record {
-      valid = passed-valid I (p .0);
-      allowed = passed-range 9 K 2 64 (first-passed (passed-all (segmentsCheck K ∷ []) (q .0)));
-    }
+    let before = mapChecks I ++ (segmentsCheck K ∷ []) in
+    found-writable I K refl (pass-parts before _ (ap firstFault (append-assoc (mapChecks I) (segmentsCheck K ∷ []) _) ∙ e) .0)
 
 module _ (I : Inputs) (K : ℕ) (bytes bytes′ : List ℕ) (size : ℕ) (w : WritePromised I K bytes bytes′ (Written size)) where
   accepted : firstFault (writeChecks I K (length bytes)) ≡ Passed
