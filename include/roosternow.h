@@ -218,9 +218,12 @@ uint32_t roosternow_version(void);
  *   together with the hold of its arc's tail, the source's arcs included though they pay none; n words for each of distances, parents and
  *   roster; ROOSTERNOW_WORK_ONE_LEVEL(n) words of work. None of these four has to be cleared.
  * Gives: distances[v], the least cost of a route to v, and parents[v], the last arc of such a route; ROOSTERNOW_NONE where there is none. A
- *   parent is the first arc examined that gives the distance, where nodes are scanned by distance and number, and arcs by number. roster[0]
- *   to roster[r - 1] are the reached nodes by nondecreasing distance, equal distances in any order. The ROOSTERNOW_WORK_ONE_LEVEL(n) first
- *   work words are 0. numbers: 0, 0, r, B, decreases, placements, looks, reads.
+ *   parent is the first arc examined that gives the distance, where nodes are scanned in the roster's order, and arcs by number. roster[0] to
+ *   roster[r - 1] are the reached nodes in the order in which they are scanned: each time the labelled node of smallest distance, and of
+ *   smallest number among equals; a node is labelled from the first arc examined that leads to it until it is scanned. So distances never fall
+ *   along the roster. It is not by distance and then by number: arcs 0 to 2 and 2 to 1 of cost 0 give 0, 2, 1. Both functions give the same
+ *   order. The words from roster[r] on are as they were. The ROOSTERNOW_WORK_ONE_LEVEL(n) first work words are 0. numbers: 0, 0, r, B,
+ *   decreases, placements, looks, reads.
  * Refuses: 1 to 6, 20, 7, 8, then 10 with place 0 distances, 1 parents, 2 roster, 3 work; in this order, the first found.
  * Costs: time in proportion to n + m + r * B at most; stack below 2 KB.
  */
@@ -242,7 +245,8 @@ void roosternow_one_level(uint32_t n, uint32_t ceiling, uint32_t source,
  *   11). In time 16 to 64 is fastest on most maps, and 16 on chains (docs/BENCHMARK.md, "How time changes with K"). So a small K where
  *   a slot is sized by heap operations, and 32 where time counts.
  * Needs: as roosternow_one_level, with ROOSTERNOW_WORK_TWO_LEVEL(n) words of work.
- * Gives: as roosternow_one_level, with distances, parents, r and decreases equal to its own, and ROOSTERNOW_WORK_TWO_LEVEL(n) work words 0.
+ * Gives: as roosternow_one_level, with distances, parents, roster, r and decreases equal to its own, for every K, and
+ *   ROOSTERNOW_WORK_TWO_LEVEL(n) work words 0.
  * Refuses: 1 to 6, 20, 7, 8, 9, then 10 with place 0 distances, 1 parents, 2 roster, 3 work; in this order, the first found.
  * Costs: time in proportion to n + m + r * (B + K) at most; stack below 4 KB.
  */

@@ -1,4 +1,4 @@
-/* Reads a planning file, plans with both heaps, and prints the route to every node that is reached: routes FILE */
+/* Reads a planning file, plans with both heaps, and prints the route to every node that is reached, in the order of the roster: routes FILE */
 #include "roosternow.h"
 
 #include <inttypes.h>
@@ -57,6 +57,8 @@ static int plan(uint32_t n, uint32_t m, uint32_t ceiling, uint32_t source, uint3
     }
     print_run("one level", one);
     print_run("two levels", two);
+    /* The roster has the nodes in the order scanned: each time the labelled node of smallest distance, and of smallest number among equals. Both
+       heaps give the same order, so that two listings of one map match line by line. */
     for (uint64_t i = 0; i < two[ROOSTERNOW_REACHED]; i++) {
         if (print_route(n, m, source, roster[i])) {
             return 1;

@@ -237,19 +237,17 @@ static void lend_by_node(struct list *list, uint32_t damage) {
     keep(list);
 }
 
-/* Each reached node once, by nondecreasing distance. */
-static void compare_roster(uint64_t reached) {
+/* What document 01 says of a roster, each reached node once by nondecreasing distance, is true of the order scanned. */
+static void expect_roster(void) {
     static bool seen[PLAIN_NODES];
     uint32_t last = 0;
     memset(seen, 0, sizeof seen);
-    compare(&roster, words_of(&roster), (size_t)reached, "roster written past its nodes");
-    for (uint64_t i = 0; i < reached; i++) {
-        uint32_t v = words_of(&roster)[i];
-        expect(v < map.n && !seen[v], "roster: not each node once");
-        seen[v] = true;
-        expect(run.distances[v] != PLAIN_NONE && run.distances[v] >= last, "roster: out of order");
-        last = run.distances[v];
+    for (uint64_t i = 0; i < run.reached; i++) {
+        uint32_t v = run.roster[i];
+        expect(!seen[v] && run.distances[v] != PLAIN_NONE && run.distances[v] >= last, "plain.h: the roster is not by distance, each node once");
+        seen[v] = true, last = run.distances[v];
     }
+    for (uint32_t v = 0; v < map.n; v++) expect(seen[v] == (run.distances[v] != PLAIN_NONE), "plain.h: a node is missing in the roster");
 }
 
 /* Of a small map: each distance is the least cost of a route, by what a route costs. */
@@ -286,6 +284,7 @@ static void call_run(bool two, uint32_t damage) {
     if (accepted) {
         expect(plain_plan(&map, two, segments, &run), "plain.h: the smallest node is not in the lowest bucket");
         expect_cheapest();
+        expect_roster();
         expected[2] = run.reached, expected[3] = run.buckets, expected[4] = run.decreases;
         expected[5] = run.placements, expected[6] = run.looks, expected[7] = run.reads;
     }
@@ -294,8 +293,8 @@ static void call_run(bool two, uint32_t damage) {
     compare_map();
     compare(&distances, run.distances, accepted ? map.n : 0, "distances");
     compare(&parents, run.parents, accepted ? map.n : 0, "parents");
+    compare(&roster, run.roster, accepted ? run.reached : 0, "roster");
     compare(&work, zeros, accepted ? needed : 0, "work");
-    compare_roster(accepted ? run.reached : 0);
 }
 
 /* ---- routes */
@@ -631,6 +630,7 @@ static void compare_answer(struct plain_fault fault, size_t length) {
         map.n = file.n, map.ceiling = file.ceiling, map.source = file.source;
         map.starts = file.starts, map.heads = file.heads, map.costs = file.costs, map.holds = file.holds;
         expect(plain_plan(&map, false, 0, &one) && plain_plan(&map, true, file.K, &run), "plain.h: the smallest node is not in the lowest bucket");
+        expect(one.reached == run.reached && memcmp(one.roster, run.roster, 4 * run.reached) == 0, "plain.h: the heaps have different rosters");
         expected = plain_text(text, sizeof text, &file, &one, &run);
     } else {
         expected = (size_t)snprintf(text, sizeof text, "refused,%" PRIu64 ",%" PRIu64 "\n", fault.number, fault.place);
@@ -642,8 +642,8 @@ static void compare_answer(struct plain_fault fault, size_t length) {
     compare(&heads, file.heads, m, "answer: heads"), compare(&costs, file.costs, m, "answer: costs");
     compare(&holds, file.holds, n, "answer: holds");
     compare(&distances, run.distances, n, "answer: distances"), compare(&parents, run.parents, n, "answer: parents");
+    compare(&roster, run.roster, accepted ? run.reached : 0, "answer: roster");
     compare(&work, zeros, accepted ? 4 * n + 384 : 0, "answer: work");
-    compare_roster(accepted ? run.reached : 0);
 }
 
 static void call_answer(void) {

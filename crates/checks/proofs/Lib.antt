@@ -1,3 +1,4 @@
 pub mod Order
 pub mod Sizes
 pub mod Valid
+pub mod Numbered

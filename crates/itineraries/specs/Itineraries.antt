@@ -12,14 +12,13 @@ use Rattle.model.specs.Answers.{wordsAfter}
 use Rattle.theory.specs.Maps.{none, Map, Route, routeCost}
 use Rattle.theory.specs.Runs.{Inputs, one, workWords, stepsOf}
 use Rattle.checks.specs.Checks.{firstFault}
-use Rattle.runs.specs.Promise.{RosterFilled, RosterAfter}
 use Rattle.walk.specs.Walk.{nodesOf, nodesAlong}
 use Rattle.route.specs.Routes.{routeWalk, routeChecks}
 use Rattle.fields.specs.Fields.{comma, decimal, renderLine}
 use Rattle.fields.specs.Writing.{Writes}
 use Rattle.reader.specs.Plans.{Plan, planOf, planStarts, planHeads, planCosts, planHolds, planRun}
 use Rattle.report.specs.Report.{refusedText}
-use Rattle.planning.specs.Planning.{planningCheck, planMap, planOneLevel, PlanLists, WordsLent}
+use Rattle.planning.specs.Planning.{planningCheck, planOneLevel, PlanLists, WordsLent}
 
 -- ---- the text
 
@@ -79,8 +78,8 @@ abbrev pub checkedWords : Check → Plan → (words : List ℕ) → List ℕ
 checkedWords Passed plan words = runFields (planRun plan) words
 checkedWords (Fault number place) plan words = words
 
--- The text is written, and the lists hold the map, what the one-level run gives back, and the routes; the order of equal distances in the
--- roster is left open (document 01, "Planning file" and "What the planner holds and leaves out").
+-- The text is written, and the lists hold the map, what the one-level run gives back, and the routes (document 01, "Planning file" and "What
+-- the planner holds and leaves out"; document 02, paper 6).
 pub record Listed (check : Check) (plan : Plan) (l l′ : PlanLists) (route route′ output output′ : List ℕ) (bytes : ℕ) : Type 0 where
   pub text : Writes 0 (checkedRoutes check plan) output output′ bytes
   pub starts-after : l′ .starts ≡ wordsAfter check (planStarts plan) (l .starts)
@@ -89,7 +88,7 @@ pub record Listed (check : Check) (plan : Plan) (l l′ : PlanLists) (route rout
   pub holds-after : l′ .holds ≡ wordsAfter check (planHolds plan) (l .holds)
   pub distances-after : l′ .distances ≡ wordsAfter check (planOneLevel plan .search .distances) (l .distances)
   pub parents-after : l′ .parents ≡ wordsAfter check (planOneLevel plan .search .parents) (l .parents)
-  pub roster-after : RosterAfter check (planMap plan) (plan .header .source) (planOneLevel plan) (l .roster) (l′ .roster)
+  pub roster-after : l′ .roster ≡ wordsAfter check (planOneLevel plan .search .roster) (l .roster)
   pub work-after : l′ .work ≡ wordsAfter check (replicate (workWords one (plan .header .nodes)) 0) (l .work)
   pub route-after : route′ ≡ checkedWords check plan route
 
@@ -150,6 +149,6 @@ pub record RunListed (I : Inputs) (l l′ : PlanLists) (route route′ output ou
   pub text : Writes 0 (runLines I) output output′ written
   pub distances-after : l′ .distances ≡ wordsAfter Passed (stepsOf one I .search .distances) (l .distances)
   pub parents-after : l′ .parents ≡ wordsAfter Passed (stepsOf one I .search .parents) (l .parents)
-  pub roster-after : RosterFilled (I .map) (I .source) (stepsOf one I) (l .roster) (l′ .roster)
+  pub roster-after : l′ .roster ≡ wordsAfter Passed (stepsOf one I .search .roster) (l .roster)
   pub work-after : l′ .work ≡ wordsAfter Passed (replicate (workWords one (I .map .nodes)) 0) (l .work)
   pub route-after : route′ ≡ runFields I route

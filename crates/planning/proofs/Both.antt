@@ -1,7 +1,7 @@
 -- Both runs, one behind the other on the same lists: what the lists hold afterwards, and the text of what is returned. Assumes nothing.
 use Prim.Native.Nat.{ℕ, zero, suc, _+_, _-_, _≤_}
 use native.Mathlib.Omega.{arith}
-use mathlib.Core.Path.{_≡_, refl, sym, _∙_, ap, ap₂, subst}
+use mathlib.Core.Path.{_≡_, refl, sym, _∙_, ap, subst}
 use mathlib.Core.List.{List, _++_}
 use lib.ListN.{length, drop, replicate, length-replicate, List·getD-append}
 use lib.Seq.{drop-append-seam, drop-append-add, drop-drop}
@@ -9,14 +9,13 @@ use Rattle.model.specs.declared.Check.{Check}
 use Rattle.model.specs.declared.Check.the-variants.{Passed}
 use Rattle.model.specs.declared.RunAnswer.{RunAnswer}
 use Rattle.model.specs.Answers.{Numbers, numbersOf, wordsAfter}
-use Rattle.theory.specs.Maps.{Map}
 use Rattle.theory.specs.Heap.{Heap}
 use Rattle.theory.specs.Search.{Search}
 use Rattle.theory.specs.Runs.{Inputs, Levels, one, two, fixedWords, workWords, stepsOf}
 use Rattle.theory.proofs.Demands.{heaps-agree, allowed-segmented, one-level-demanded}
 use Rattle.checks.specs.Checks.{firstFault, runChecks, Lengths}
 use Rattle.checks.proofs.Valid.{passed-ready}
-use Rattle.runs.specs.Promise.{Lent, lent, lengthsOf, RosterFilled, Ran, Promised}
+use Rattle.runs.specs.Promise.{Lent, lent, lengthsOf, Ran, Promised}
 use Rattle.report.specs.Report.{nodeLines, acceptedText}
 use Rattle.fields.specs.Writing.{Writes}
 use Rattle.fields.proofs.Written.{writes-same}
@@ -27,6 +26,11 @@ use Rattle.planning.specs.Planning.{PlanLists, heapsText, runsText, plan
 same-twice : (xs ys words : List ℕ) → xs ≡ ys → wordsAfter Passed ys (wordsAfter Passed xs words) ≡ wordsAfter Passed ys words
 same-twice xs ys words e = rw e (ap (λ (l : List ℕ). ys ++ l) (drop-append-seam ys (drop (length ys) words)))
 
+-- A list that one search has filled and then another, which has found the same.
+list-behind : {s t : Search} → s ≡ t → (list : Search → List ℕ) (words : List ℕ) {between words′ : List ℕ} → between ≡ wordsAfter Passed (list s) words
+    → words′ ≡ wordsAfter Passed (list t) between → words′ ≡ wordsAfter Passed (list t) words
+list-behind {s} {t} e list words p q = q ∙ ap (wordsAfter Passed (list t)) p ∙ same-twice (list s) (list t) words (ap list e)
+
 longer-twice : (a b : ℕ) (words : List ℕ) → a ≤ b → wordsAfter Passed (replicate b 0) (wordsAfter Passed (replicate a 0) words) ≡ wordsAfter Passed (replicate b 0) words
 longer-twice a b words h =
     let first : length {A = ℕ} (replicate a 0) ≡ a = length-replicate a 0 in
@@ -36,20 +40,6 @@ longer-twice a b words h =
     ∙ drop-append-add (replicate a 0) (drop (length {A = ℕ} (replicate a 0)) words) (b - a)
     ∙ drop-drop (b - a) (length {A = ℕ} (replicate a 0)) words
     ∙ ap (λ (k : ℕ). drop k words) (sym second))
-
-roster-twice : (M : Map) (source : ℕ) (h h′ : Heap) (words between after : List ℕ) → length (h .search .roster) ≡ length (h′ .search .roster)
-    → RosterFilled M source h words between → RosterFilled M source h′ between after → RosterFilled M source h′ words after
-roster-twice M source h h′ words between after e F G =
-    let same : length (G .order) ≡ length (F .order) = G .count ∙ sym e ∙ sym (F .count) in
-    record {
-      order = G .order;
-      count = G .count;
-      each-once = G .each-once;
-      filled =
-          G .filled
-          ∙ ap (λ (l : List ℕ). G .order ++ l)
-          (ap₂ (λ (k : ℕ) (l : List ℕ). drop k l) same (F .filled) ∙ drop-append-seam (F .order) (drop (length (F .order)) words) ∙ ap (λ (k : ℕ). drop k words) (sym same));
-    }
 
 -- ---- the lines of nodes
 
@@ -72,15 +62,9 @@ module _ {L L′ : Levels} {I : Inputs} (words : fixedWords L ≤ fixedWords L�
   run-behind : (l between l′ : Lent) {r r′ : RunAnswer} → Ran L I Passed r l between → Ran L′ I Passed r′ between l′ → Ran L′ I Passed r′ l l′
   run-behind l between l′ P Q = record {
     numbers = Q .numbers;
-    distances =
-        Q .distances ∙ ap (wordsAfter Passed (stepsOf L′ I .search .distances)) (P .distances)
-        ∙ same-twice (stepsOf L I .search .distances) (stepsOf L′ I .search .distances) (l .distances) (ap (λ (s : Search). s .distances) agree);
-    parents =
-        Q .parents ∙ ap (wordsAfter Passed (stepsOf L′ I .search .parents)) (P .parents)
-        ∙ same-twice (stepsOf L I .search .parents) (stepsOf L′ I .search .parents) (l .parents) (ap (λ (s : Search). s .parents) agree);
-    roster =
-        roster-twice (I .map) (I .source) (stepsOf L I) (stepsOf L′ I) (l .roster) (between .roster) (l′ .roster) (ap (λ (s : Search). length (s .roster)) agree)
-        (P .roster) (Q .roster);
+    distances = list-behind agree (λ (s : Search). s .distances) (l .distances) (P .distances) (Q .distances);
+    parents = list-behind agree (λ (s : Search). s .parents) (l .parents) (P .parents) (Q .parents);
+    roster = list-behind agree (λ (s : Search). s .roster) (l .roster) (P .roster) (Q .roster);
     work =
         Q .work ∙ ap (wordsAfter Passed (replicate (workWords L′ (I .map .nodes)) 0)) (P .work)
         ∙ longer-twice (workWords L (I .map .nodes)) (workWords L′ (I .map .nodes)) (l .work) (omega (arith, words));
@@ -112,7 +96,7 @@ module _ (K : ℕ) (I : Inputs) (L L′ : PlanLists) where
           left = record {
             distances-after = behind .distances ∙ ap (λ (s : Search). wordsAfter Passed (s .distances) (L .distances)) (sym agree);
             parents-after = behind .parents ∙ ap (λ (s : Search). wordsAfter Passed (s .parents) (L .parents)) (sym agree);
-            roster-after = behind .roster;
+            roster-after = behind .roster ∙ ap (λ (s : Search). wordsAfter Passed (s .roster) (L .roster)) (sym agree);
             work-after = behind .work;
           };
         }

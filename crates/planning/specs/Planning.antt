@@ -9,11 +9,10 @@ use lib.ListN.{length, take, replicate}
 use Rattle.model.specs.declared.Check.{Check}
 use Rattle.model.specs.declared.Check.the-variants.{Passed, Fault}
 use Rattle.model.specs.Answers.{Numbers, wordsAfter}
-use Rattle.theory.specs.Maps.{Map}
 use Rattle.theory.specs.Heap.{Heap, placements}
 use Rattle.theory.specs.Runs.{Inputs, inputs, Levels, one, two, heapBuckets, workWords, stepsOf}
 use Rattle.checks.specs.Checks.{firstFault, runChecks, Lengths, lengthsFor}
-use Rattle.runs.specs.Promise.{RosterAfter, runNumbers}
+use Rattle.runs.specs.Promise.{runNumbers}
 use Rattle.fields.specs.Writing.{Writes}
 use Rattle.plan_checks.specs.Checking.{planCheck}
 use Rattle.reader.specs.Plans.{Plan, planOf, planStarts, planHeads, planCosts, planHolds, planRun}
@@ -31,17 +30,9 @@ mostBytes = 65536
 unfoldable pub planningCheck : (bytes : List ℕ) → Check
 planningCheck bytes = cond (ltb mostBytes (length bytes)) (Fault 13 0) (planCheck bytes 513 2048 2048 512)
 
--- The map of a planning file (document 01, "Planning file").
-abbrev pub planMap : Plan → Map
-planMap plan = planRun plan .map
-
 -- The steps of the one-level run of a planning file (document 01, "One-level heap").
 abbrev pub planOneLevel : Plan → Heap
 planOneLevel plan = stepsOf one (planRun plan)
-
--- The steps of the two-level run of a planning file (document 01, "Two-level heap").
-abbrev pub planTwoLevel : Plan → Heap
-planTwoLevel plan = stepsOf (two (plan .header .segments)) (planRun plan)
 
 -- The answer's text for m arcs and K, of the steps of both heaps over what the runs are given. Decreases, distances and parents are equal
 -- for both, and the one-level heap's are told (document 01, "Planning file"; document 02, paper 3).
@@ -89,8 +80,9 @@ planLists starts heads costs holds distances parents roster work = record {
   work = work;
 }
 
--- The text is written, and the lists hold the map and what the runs give back; the two-level run is made behind the one-level run, and the
--- order of equal distances in its roster is left open (document 01, "Planning file" and "What the planner holds and leaves out").
+-- The text is written, and the lists hold the map and what the runs give back. The two-level run is made behind the one-level run; distances,
+-- parents and roster are equal for both, and the one-level heap's are named (document 01, "Planning file" and "What the planner holds and
+-- leaves out"; document 02, paper 6).
 pub record Answered (check : Check) (plan : Plan) (l l′ : PlanLists) (output output′ : List ℕ) (bytes : ℕ) : Type 0 where
   pub text : Writes 0 (planAnswerText check plan) output output′ bytes
   pub starts-after : l′ .starts ≡ wordsAfter check (planStarts plan) (l .starts)
@@ -99,7 +91,7 @@ pub record Answered (check : Check) (plan : Plan) (l l′ : PlanLists) (output o
   pub holds-after : l′ .holds ≡ wordsAfter check (planHolds plan) (l .holds)
   pub distances-after : l′ .distances ≡ wordsAfter check (planOneLevel plan .search .distances) (l .distances)
   pub parents-after : l′ .parents ≡ wordsAfter check (planOneLevel plan .search .parents) (l .parents)
-  pub roster-after : RosterAfter check (planMap plan) (plan .header .source) (planTwoLevel plan) (l .roster) (l′ .roster)
+  pub roster-after : l′ .roster ≡ wordsAfter check (planOneLevel plan .search .roster) (l .roster)
   pub work-after : l′ .work ≡ wordsAfter check (replicate (workWords (two (plan .header .segments)) (plan .header .nodes)) 0) (l .work)
 
 -- From bytes to bytes, for every input (document 01, "Planning file" and "What a call returns").
@@ -173,7 +165,7 @@ pub record BothRunnable (n m C source K : ℕ) (l : PlanLists) : Type 0 where
 pub record BothLeft (K : ℕ) (I : Inputs) (l l′ : PlanLists) : Type 0 where
   pub distances-after : l′ .distances ≡ wordsAfter Passed (stepsOf one I .search .distances) (l .distances)
   pub parents-after : l′ .parents ≡ wordsAfter Passed (stepsOf one I .search .parents) (l .parents)
-  pub roster-after : RosterAfter Passed (I .map) (I .source) (stepsOf (two K) I) (l .roster) (l′ .roster)
+  pub roster-after : l′ .roster ≡ wordsAfter Passed (stepsOf one I .search .roster) (l .roster)
   pub work-after : l′ .work ≡ wordsAfter Passed (replicate (workWords (two K) (I .map .nodes)) 0) (l .work)
 
 -- Both runs with K are made, and have returned these numbers (document 01, "What a call returns").

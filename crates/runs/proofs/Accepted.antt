@@ -49,7 +49,7 @@ module _ {L : Levels} {I : Inputs} (l : Lent) (ready : Ready L I (lengthsOf l)) 
       numbers = q ∙ ap₂ (λ (r : ℕ) (t : Tally). acceptedNumbers r (heapBuckets L (I .ceiling)) (countsTold t)) (E .reached) (E .tally);
       distances = E .distances;
       parents = E .parents;
-      roster = record { order = stepsOf L I .search .roster; count = refl; each-once = D .counts .roster; filled = E .roster };
+      roster = E .roster;
       work = E .work;
       demanded = D;
     }

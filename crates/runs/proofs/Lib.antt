@@ -1,3 +1,4 @@
 pub mod Settings
 pub mod Fronts
 pub mod Accepted
+pub mod Agreement

@@ -8,9 +8,9 @@ use Rattle.model.specs.declared.Check.the-variants.{Passed, Fault}
 use Rattle.model.specs.declared.Counts.{Counts}
 use Rattle.model.specs.declared.RunAnswer.{RunAnswer}
 use Rattle.model.specs.Answers.{Numbers, numbersOf, acceptedNumbers, refusedNumbers, wordsAfter}
-use Rattle.theory.specs.Maps.{Map, Reached}
+use Rattle.theory.specs.Maps.{Map}
 use Rattle.theory.specs.Heap.{Heap, placements}
-use Rattle.theory.specs.Demands.{Roster, Demanded}
+use Rattle.theory.specs.Demands.{Demanded}
 use Rattle.theory.specs.Runs.{Inputs, Levels, one, two, heapBuckets, removalLooks, workWords, stepsOf}
 use Rattle.checks.specs.Checks.{firstFault, runChecks, Lengths}
 
@@ -23,19 +23,6 @@ countsGiven h = record { decreases = h .search .decreases; placements = placemen
 abbrev pub runNumbers : Check → (B : ℕ) → (h : Heap) → Numbers
 runNumbers Passed B h = acceptedNumbers (length (h .search .roster)) B (countsGiven h)
 runNumbers (Fault number place) B h = refusedNumbers number place
-
--- The roster of an accepted run: its first r words are each reached node once by nondecreasing distance, and the words from r on
--- are as they were. The order of equal distances is left open (document 01, "What the planner holds and leaves out").
-pub record RosterFilled (M : Map) (source : ℕ) (h : Heap) (words words′ : List ℕ) : Type 0 where
-  pub order : List ℕ
-  pub count : length order ≡ length (h .search .roster)
-  pub each-once : Roster (Reached M source) (h .search .distances) order
-  pub filled : words′ ≡ wordsAfter Passed order words
-
--- The roster afterwards (document 01, "What a call returns").
-abbrev pub RosterAfter : Check → (M : Map) → (source : ℕ) → (h : Heap) → (words words′ : List ℕ) → Type 0
-RosterAfter Passed M source h words words′ = RosterFilled M source h words words′
-RosterAfter (Fault number place) M source h words words′ = words′ ≡ words
 
 -- Demands 2 and 3, of an accepted run with B buckets and at most L looks to a removal (document 01, "The tallies").
 abbrev pub RunDemanded : Check → (M : Map) → (source B L : ℕ) → (h : Heap) → Type 0
@@ -58,12 +45,12 @@ abbrev pub lengthsOf : Lent → Lengths
 lengthsOf l = record { distances = length (l .distances); parents = length (l .parents); roster = length (l .roster); work = length (l .work) }
 
 -- A run whose checks in order come to `check`: the answer, what each lent list holds afterwards, and the demands (document 01,
--- "What a call returns" and "The tallies").
+-- "What a call returns" and "The tallies"). The first r words of the roster are the nodes in the order scanned (document 02, paper 6).
 pub record Ran (L : Levels) (I : Inputs) (check : Check) (r : RunAnswer) (l l′ : Lent) : Type 0 where
   pub numbers : numbersOf r ≡ runNumbers check (heapBuckets L (I .ceiling)) (stepsOf L I)
   pub distances : l′ .distances ≡ wordsAfter check (stepsOf L I .search .distances) (l .distances)
   pub parents : l′ .parents ≡ wordsAfter check (stepsOf L I .search .parents) (l .parents)
-  pub roster : RosterAfter check (I .map) (I .source) (stepsOf L I) (l .roster) (l′ .roster)
+  pub roster : l′ .roster ≡ wordsAfter check (stepsOf L I .search .roster) (l .roster)
   pub work : l′ .work ≡ wordsAfter check (replicate (workWords L (I .map .nodes)) 0) (l .work)
   pub demanded : RunDemanded check (I .map) (I .source) (heapBuckets L (I .ceiling)) (removalLooks L (I .ceiling)) (stepsOf L I)
 

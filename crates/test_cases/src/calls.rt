@@ -10,6 +10,7 @@ use test_rows::map::PARENTS;
 use test_rows::map::part;
 use test_rows::printing::print_byte_sums;
 use test_rows::printing::print_sums;
+use test_rows::printing::print_words;
 use test_rows::rows::Row;
 
 // Row: one N,C,SOURCE STARTS,HEADS,COSTS,HOLDS DISTANCES,PARENTS,ROSTER,WORK
@@ -33,6 +34,7 @@ fn one_level(row: Row, starts: &[u32], heads: &[u32], costs: &[u32], holds: &[u3
     );
     crate::printing::print_run(answer);
     print_lists(&distances, &parents, &roster, &work);
+    print_roster(row, &roster);
 }
 
 // Row: two N,C,SOURCE STARTS,HEADS,COSTS,HOLDS DISTANCES,PARENTS,ROSTER,WORK K
@@ -57,6 +59,16 @@ fn two_level(row: Row, starts: &[u32], heads: &[u32], costs: &[u32], holds: &[u3
     );
     crate::printing::print_run(answer);
     print_lists(&distances, &parents, &roster, &work);
+    print_roster(row, &roster);
+}
+
+// A row scan has the roster's lent words behind each run, so that their order can be read.
+fn print_roster(row: Row, roster: &[u32]) {
+    if row.word == b's' {
+        io::write_all(1, b"roster");
+        print_words(part(roster, 0, row.n10));
+        io::write_all(1, b"\n");
+    }
 }
 
 fn print_lists(first: &[u32], second: &[u32], third: &[u32], fourth: &[u32]) {
@@ -68,14 +80,14 @@ fn print_lists(first: &[u32], second: &[u32], third: &[u32], fourth: &[u32]) {
 }
 
 // Row: route N,SOURCE,DESTINATION STARTS,HEADS,PARENTS ROUTE
-fn walk(row: Row, starts: &[u32], heads: &[u32], parents: &[u32]) {
+pub fn walk(row: Row, map: &[u32]) {
     let mut route = [7000003u32; 4100];
     let answer = route::route(
         row.n1,
         Node(row.n2),
-        starts,
-        heads,
-        parents,
+        part(map, 0, row.n4),
+        part(map, HEADS, row.n5),
+        part(map, PARENTS, row.n6),
         Node(row.n3),
         front(&mut route, row.n7),
     );
@@ -170,26 +182,22 @@ fn print_all(
     print_lists(distances, parents, roster, work);
 }
 
-// The rows that lend a map.
-pub fn call(row: Row, map: &[u32]) {
+// Row: scan, as two
+fn both_levels(row: Row, starts: &[u32], heads: &[u32], costs: &[u32], holds: &[u32]) {
+    one_level(row, starts, heads, costs, holds);
+    two_level(row, starts, heads, costs, holds);
+}
+
+// The rows that make a run.
+pub fn run(row: Row, map: &[u32]) {
     let starts = part(map, 0, row.n4);
     let heads = part(map, HEADS, row.n5);
+    let costs = part(map, COSTS, row.n6);
+    let holds = part(map, HOLDS, row.n7);
     let word = row.word;
     match word {
-        b'o' => one_level(
-            row,
-            starts,
-            heads,
-            part(map, COSTS, row.n6),
-            part(map, HOLDS, row.n7),
-        ),
-        b't' => two_level(
-            row,
-            starts,
-            heads,
-            part(map, COSTS, row.n6),
-            part(map, HOLDS, row.n7),
-        ),
-        _ => walk(row, starts, heads, part(map, PARENTS, row.n6)),
+        b'o' => one_level(row, starts, heads, costs, holds),
+        b't' => two_level(row, starts, heads, costs, holds),
+        _ => both_levels(row, starts, heads, costs, holds),
     }
 }

@@ -1,5 +1,5 @@
 // The planner on fixed cases, which stand in standard input, a row for each step (document 01, "What a call returns" and "Edges", and
-// document 02, papers 2 and 3). Standard output repeats every row and has behind it what the row gave. The head of crates/test_cases/stdin says
+// document 02, papers 2, 3 and 6). Standard output repeats every row and has behind it what the row gave. The head of crates/test_cases/stdin says
 // what each row is.
 use planning_file::File;
 use test_rows::bytes;
@@ -19,7 +19,8 @@ fn act(line: &[u8], map: &mut Map, file: &mut File, written: usize) -> usize {
     match word {
         b'w' => map::put_words(map, row, line),
         b'f' | b'd' => map::spread(map, row),
-        b'o' | b't' | b'r' => calls::call(row, map),
+        b'o' | b't' | b's' => calls::run(row, map),
+        b'r' => calls::walk(row, map),
         b'p' => calls::plan(bytes::made(file, written)),
         b'i' => calls::read(row, bytes::made(file, written)),
         _ => (),

@@ -10,6 +10,14 @@ pub fn print_number(number: u64) {
     io::print_decimal(1, number);
 }
 
+pub fn print_words(list: &[u32]) {
+    let mut i = 0;
+    while i < list.len() {
+        print_number(wide(list[i]));
+        i += 1;
+    }
+}
+
 // Sums stay far below 2^62: 33,280 bytes of a text, 1,400,000 of a road file, 16,768 words, or 65,540 words below 2^22, weighted by at most as
 // many, give less than 2^60. So the remainders take nothing away, and the proof sees that no sum wraps.
 fn plus(sum: u64, more: u64) -> u64 {

@@ -50,8 +50,8 @@ abbrev pub Rising : (distances : List ℕ) → (low : ℕ) → List ℕ → (hig
 Rising distances low [] high = low ≡ high
 Rising distances low (v ∷ vs) high = (low ≤ distanceOf distances v) × Rising distances (distanceOf distances v) vs high
 
--- A roster, document 01's own term: each reached node once, by nondecreasing distance, equal distances in any order (document
--- 01, "What the planner holds and leaves out"). Its length is r, the number of reached nodes.
+-- What document 01 says of a roster: each reached node once, by nondecreasing distance ("What the planner holds and leaves out"). It
+-- follows of the order scanned, which fixes the roster (document 02, paper 6). Its length is r, the number of reached nodes.
 pub record Roster (IsReached : ℕ → Type 0) (distances roster : List ℕ) : Type 0 where
   pub listed : (v : ℕ) → List·Memᴰ v roster → IsReached v
   pub complete : (v : ℕ) → IsReached v → List·Memᴰ v roster

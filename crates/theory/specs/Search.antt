@@ -13,7 +13,9 @@ pub data Mark : Type 0 where
   unlabelled labelled scanned : Mark
 
 -- What the steps keep of the search (document 01, "The tallies"): for each node its mark, distance and parent; insertions and
--- decreases. The roster, here the nodes in the order scanned, is ours.
+-- decreases; and the roster, document 01's own term, which has the nodes in the order scanned (document 02, paper 6). That is again and
+-- again, of the labelled nodes the one of smallest distance, and of smallest number among equals (`nearest`). It is not by distance and then
+-- by number: arcs 0→2 and 2→1 of cost 0 give 0, 2, 1, since node 1 is labelled only when 2 is scanned.
 pub record Search : Type 0 where
   pub marks : List Mark
   pub distances : List ℕ
