@@ -37,15 +37,16 @@ module _ {L : Levels} {I : Inputs} {r : RunAnswer} {l l′ : Lent} (promised : P
 
 -- ---- two accepted runs
 
-filled-alike : (count : ℕ) (filled : List ℕ) {words words′ others others′ : List ℕ} → length filled ≡ count
-    → words′ ≡ wordsAfter Passed filled words → others′ ≡ wordsAfter Passed filled others → FilledAlike count words words′ others others′
-filled-alike count filled {words} {words′} {others} {others′} long p q = record {
-  filled = first words words′ p ∙ sym (first others others′ q);
-  equal = λ e. p ∙ ap (wordsAfter Passed filled) e ∙ sym q;
-}
-  where
-    first : (list list′ : List ℕ) → list′ ≡ wordsAfter Passed filled list → take count list′ ≡ filled
-    first list list′ e = ap (take count) e ∙ take-at filled (drop (length filled) list) count long
+-- Lists that two searches have filled, which have found the same.
+module _ {s t : Search} (agree : s ≡ t) (list : Search → List ℕ) (count : ℕ) (long : length (list s) ≡ count) where
+  first-words : (words : List ℕ) {words′ : List ℕ} → words′ ≡ wordsAfter Passed (list s) words → take count words′ ≡ list s
+  first-words words p = ap (take count) p ∙ take-at (list s) (drop (length (list s)) words) count long
+
+  filled-alike : (words others : List ℕ) {words′ others′ : List ℕ} → words′ ≡ wordsAfter Passed (list s) words
+      → others′ ≡ wordsAfter Passed (list t) others → FilledAlike count words words′ others others′
+  filled-alike words others {words′} {others′} p r =
+      let q : others′ ≡ wordsAfter Passed (list s) others = r ∙ ap (λ (x : Search). wordsAfter Passed (list x) others) (sym agree) in
+      record { filled = first-words words p ∙ sym (first-words others q); equal = λ e. p ∙ ap (wordsAfter Passed (list s)) e ∙ sym q }
 
 -- Whatever two accepted runs of the same inputs are made with, they agree.
 pub runs-agree : {L L′ : Levels} {I : Inputs} {r s : RunAnswer} {l l′ k k′ : Lent} → Promised L I r l l′ → Promised L′ I s k k′
@@ -63,14 +64,14 @@ runs-agree {L} {L′} {I} {r} {s} {l} {l′} {k} {k′} P Q a b =
           ap (λ (n : Numbers). n .counts .decreases) (first .numbers) ∙ ap (λ (x : Search). x .decreases) agree
           ∙ sym (ap (λ (n : Numbers). n .counts .decreases) (second .numbers));
       distances =
-          filled-alike (I .map .nodes) (stepsOf L I .search .distances) (first .demanded .cheapest .distances-length) (first .distances)
-          (second .distances ∙ ap (λ (x : Search). wordsAfter Passed (x .distances) (k .distances)) (sym agree));
+          filled-alike agree (λ (x : Search). x .distances) (I .map .nodes) (first .demanded .cheapest .distances-length)
+          (l .distances) (k .distances) (first .distances) (second .distances);
       parents =
-          filled-alike (I .map .nodes) (stepsOf L I .search .parents) (first .demanded .cheapest .parents-length) (first .parents)
-          (second .parents ∙ ap (λ (x : Search). wordsAfter Passed (x .parents) (k .parents)) (sym agree));
+          filled-alike agree (λ (x : Search). x .parents) (I .map .nodes) (first .demanded .cheapest .parents-length)
+          (l .parents) (k .parents) (first .parents) (second .parents);
       roster =
-          filled-alike (numbersOf r .reached) (stepsOf L I .search .roster) (sym reached) (first .roster)
-          (second .roster ∙ ap (λ (x : Search). wordsAfter Passed (x .roster) (k .roster)) (sym agree));
+          filled-alike agree (λ (x : Search). x .roster) (numbersOf r .reached) (sym reached)
+          (l .roster) (k .roster) (first .roster) (second .roster);
     }
 
 -- What a run of each heap has left in equal rosters is equal, for every K (document 02, paper 6).
