@@ -14,26 +14,14 @@ use Rattle.reader.specs.declared.PlanAnswer.{PlanAnswer}
 use Rattle.reader.specs.declared.PlanAnswer.the-variants.{Read, Refused}
 use Rattle.reader.specs.Plans.{Plan}
 use Rattle.reader.specs.Promise.{PlanPromised}
-use Rattle.reader.proofs.Told.{read-told}
 use Rattle.report.specs.Report.{refusedText}
 use Rattle.planning.specs.Planning.{planningCheck, PlanLists, planLists, WordsLent, mapInputs, MapRunnable}
-use Rattle.planning.proofs.Reading.{mapIn, long-check, refused-check, untouched, passed-check, inputs-read, map-read}
+use Rattle.planning.proofs.Reading.{mapIn, long-check, refused-left, refused-check, untouched, passed-check, inputs-read, map-read, read-left}
 use Rattle.itineraries.specs.Itineraries.{routesText, Listed, ItinerariesPromised, RunListed}
 
 refused-listed : (bytes : List ℕ) {l : PlanLists} {number place : ℕ} {route output output′ : List ℕ} {written : ℕ} → planningCheck bytes ≡ Fault number place
     → Writes 0 (refusedText number place) output output′ written → ItinerariesPromised bytes l l route route output output′ written
-refused-listed bytes e W = rw e (record {
-  text = W;
-  starts-after = refl;
-  heads-after = refl;
-  costs-after = refl;
-  holds-after = refl;
-  distances-after = refl;
-  parents-after = refl;
-  roster-after = refl;
-  work-after = refl;
-  route-after = refl;
-})
+refused-listed bytes e W = rw e (record { text = W; lists = refused-left; route-after = refl })
 
 pub too-long : (bytes : List ℕ) (l : PlanLists) {route output output′ : List ℕ} {written : ℕ} → 65536 < length bytes
     → Writes 0 (refusedText 13 0) output output′ written → ItinerariesPromised bytes l l route route output output′ written
@@ -56,19 +44,7 @@ module _ (bytes : List ℕ) (short : length bytes ≤ 65536) {l : PlanLists} (le
         → ItinerariesPromised bytes l l′ route route′ output output′ written
     map-listed B =
         let E = rw (inputs-read bytes short lent P a) at B in
-        rw (passed-check bytes short lent P a)
-        (record {
-          text = E .text;
-          starts-after = read-told P a .starts-after;
-          heads-after = read-told P a .heads-after;
-          costs-after = read-told P a .costs-after;
-          holds-after = read-told P a .holds-after;
-          distances-after = E .distances-after;
-          parents-after = E .parents-after;
-          roster-after = E .roster-after;
-          work-after = E .work-after;
-          route-after = E .route-after;
-        })
+        rw (passed-check bytes short lent P a) (record { text = E .text; lists = read-left bytes short lent P a _ (E .left); route-after = E .route-after })
 
 -- What is written is the text of the file.
 pub answer-text : (bytes : List ℕ) {l l′ : PlanLists} {route route′ output output′ : List ℕ} {written : ℕ}

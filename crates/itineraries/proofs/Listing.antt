@@ -14,10 +14,10 @@ use Rattle.theory.specs.Runs.{Inputs, ValidInputs, one, stepsOf}
 use Rattle.theory.proofs.Cases.{same?}
 use Rattle.checks.specs.Checks.{firstFault, runChecks}
 use Rattle.checks.proofs.Valid.{passed-ready}
-use Rattle.runs.specs.Promise.{Lent, lent, lengthsOf, Ran, OneLevelPromised}
+use Rattle.runs.specs.Promise.{Lent, lengthsOf, Ran, OneLevelPromised}
 use Rattle.fields.specs.Writing.{Writes}
 use Rattle.fields.proofs.Written.{writes-same}
-use Rattle.planning.specs.Planning.{PlanLists, mapInputs, MapRunnable}
+use Rattle.planning.specs.Planning.{PlanLists, lentOf, mapInputs, MapRunnable}
 use Rattle.itineraries.specs.Itineraries.{lineIfReached, routeLines, nodesTo, runRoute, runLines, wordsIfReached, routeFields, runFields, AllRoutable, RunListed}
 use Rattle.itineraries.proofs.Lines.{unreached-line, unreached-words}
 use Rattle.itineraries.proofs.Reaching.{nodes-past, reached-routable}
@@ -107,10 +107,6 @@ module _ (I : Inputs) (l l′ : Lent) {r : RunAnswer} (passed : firstFault (runC
 
 -- ---- as the code tells it
 
--- the lists that are lent to the run
-abbrev lentOf : PlanLists → Lent
-lentOf l = lent (l .distances) (l .parents) (l .roster) (l .work)
-
 module _ {n m C source : ℕ} {l : PlanLists} (R : MapRunnable one n m C source l) where
   abbrev I : Inputs
   I = mapInputs n m C source l
@@ -127,9 +123,6 @@ module _ {n m C source : ℕ} {l : PlanLists} (R : MapRunnable one n m C source 
       let Q = ran I (lentOf l) (lentOf l′) (R .accepted) P in
       record {
         text = writes-same (lent-lines I (lentOf l) (lentOf l′) (R .accepted) P) W;
-        distances-after = Q .distances;
-        parents-after = Q .parents;
-        roster-after = Q .roster;
-        work-after = Q .work;
+        left = record { distances-after = Q .distances; parents-after = Q .parents; roster-after = Q .roster; work-after = Q .work };
         route-after = e ∙ lent-words I (lentOf l) (lentOf l′) (R .accepted) P route;
       }

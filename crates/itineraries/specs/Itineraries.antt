@@ -5,20 +5,20 @@ use mathlib.Core.Bool.{cond}
 use mathlib.Core.Path.{_≡_}
 use mathlib.Core.List.{List, [], _∷_, _++_}
 use lib.Dec.{eqb}
-use lib.ListN.{length, getD, replicate}
+use lib.ListN.{length, getD}
 use Rattle.model.specs.declared.Check.{Check}
 use Rattle.model.specs.declared.Check.the-variants.{Passed, Fault}
 use Rattle.model.specs.Answers.{wordsAfter}
 use Rattle.theory.specs.Maps.{none, Map, Route, routeCost}
-use Rattle.theory.specs.Runs.{Inputs, one, workWords, stepsOf}
+use Rattle.theory.specs.Runs.{Inputs, one, stepsOf}
 use Rattle.checks.specs.Checks.{firstFault}
 use Rattle.walk.specs.Walk.{nodesOf, nodesAlong}
 use Rattle.route.specs.Routes.{routeWalk, routeChecks}
 use Rattle.fields.specs.Fields.{comma, decimal, renderLine}
 use Rattle.fields.specs.Writing.{Writes}
-use Rattle.reader.specs.Plans.{Plan, planOf, planStarts, planHeads, planCosts, planHolds, planRun}
+use Rattle.reader.specs.Plans.{Plan, planOf, planRun}
 use Rattle.report.specs.Report.{refusedText}
-use Rattle.planning.specs.Planning.{planningCheck, planOneLevel, PlanLists, WordsLent}
+use Rattle.planning.specs.Planning.{planningCheck, PlanLists, lentOf, RunLeft, ListsLeft, WordsLent}
 
 -- ---- the text
 
@@ -78,18 +78,10 @@ abbrev pub checkedWords : Check → Plan → (words : List ℕ) → List ℕ
 checkedWords Passed plan words = runFields (planRun plan) words
 checkedWords (Fault number place) plan words = words
 
--- The text is written, and the lists hold the map, what the one-level run gives back, and the routes (document 01, "Planning file" and "What
--- the planner holds and leaves out"; document 02, paper 6).
+-- The text is written, and the lists hold the map, what the one-level run leaves, and the routes (document 01, "Planning file" and "Routes").
 pub record Listed (check : Check) (plan : Plan) (l l′ : PlanLists) (route route′ output output′ : List ℕ) (bytes : ℕ) : Type 0 where
   pub text : Writes 0 (checkedRoutes check plan) output output′ bytes
-  pub starts-after : l′ .starts ≡ wordsAfter check (planStarts plan) (l .starts)
-  pub heads-after : l′ .heads ≡ wordsAfter check (planHeads plan) (l .heads)
-  pub costs-after : l′ .costs ≡ wordsAfter check (planCosts plan) (l .costs)
-  pub holds-after : l′ .holds ≡ wordsAfter check (planHolds plan) (l .holds)
-  pub distances-after : l′ .distances ≡ wordsAfter check (planOneLevel plan .search .distances) (l .distances)
-  pub parents-after : l′ .parents ≡ wordsAfter check (planOneLevel plan .search .parents) (l .parents)
-  pub roster-after : l′ .roster ≡ wordsAfter check (planOneLevel plan .search .roster) (l .roster)
-  pub work-after : l′ .work ≡ wordsAfter check (replicate (workWords one (plan .header .nodes)) 0) (l .work)
+  pub lists : ListsLeft check plan one l l′
   pub route-after : route′ ≡ checkedWords check plan route
 
 -- From bytes to bytes, for every input (document 01, "Planning file" and "What a call returns").
@@ -147,8 +139,5 @@ pub record ListLends (l : PlanLists) (route output : List ℕ) : Type 0 where
 -- The one-level run of these inputs is made, and its routes are written (document 01, "Routes" and "One-level heap").
 pub record RunListed (I : Inputs) (l l′ : PlanLists) (route route′ output output′ : List ℕ) (written : ℕ) : Type 0 where
   pub text : Writes 0 (runLines I) output output′ written
-  pub distances-after : l′ .distances ≡ wordsAfter Passed (stepsOf one I .search .distances) (l .distances)
-  pub parents-after : l′ .parents ≡ wordsAfter Passed (stepsOf one I .search .parents) (l .parents)
-  pub roster-after : l′ .roster ≡ wordsAfter Passed (stepsOf one I .search .roster) (l .roster)
-  pub work-after : l′ .work ≡ wordsAfter Passed (replicate (workWords one (I .map .nodes)) 0) (l .work)
+  pub left : RunLeft Passed one I (lentOf l) (lentOf l′)
   pub route-after : route′ ≡ runFields I route

@@ -14,25 +14,15 @@ use Rattle.reader.specs.declared.PlanAnswer.{PlanAnswer}
 use Rattle.reader.specs.declared.PlanAnswer.the-variants.{Read, Refused}
 use Rattle.reader.specs.Plans.{Plan}
 use Rattle.reader.specs.Promise.{PlanPromised}
-use Rattle.reader.proofs.Told.{read-told, count-told, segments-told}
+use Rattle.reader.proofs.Told.{count-told, segments-told}
 use Rattle.reader.proofs.Runnable.{file-allowed}
 use Rattle.report.specs.Report.{refusedText}
 use Rattle.planning.specs.Planning.{planningCheck, PlanLists, planLists, Answered, PlanningPromised, WordsLent, mapInputs, BothRunnable, BothRun}
-use Rattle.planning.proofs.Reading.{mapIn, long-check, refused-check, untouched, passed-check, runnable, inputs-read, map-read}
+use Rattle.planning.proofs.Reading.{mapIn, long-check, refused-left, refused-check, untouched, passed-check, runnable, inputs-read, map-read, read-left}
 
 refused-answered : (bytes : List ℕ) {l : PlanLists} {number place : ℕ} {output output′ : List ℕ} {written : ℕ} → planningCheck bytes ≡ Fault number place
     → Writes 0 (refusedText number place) output output′ written → PlanningPromised bytes l l output output′ written
-refused-answered bytes e W = rw e (record {
-  text = W;
-  starts-after = refl;
-  heads-after = refl;
-  costs-after = refl;
-  holds-after = refl;
-  distances-after = refl;
-  parents-after = refl;
-  roster-after = refl;
-  work-after = refl;
-})
+refused-answered bytes e W = rw e (record { text = W; lists = refused-left })
 
 pub too-long : (bytes : List ℕ) (l : PlanLists) {output output′ : List ℕ} {written : ℕ} → 65536 < length bytes
     → Writes 0 (refusedText 13 0) output output′ written → PlanningPromised bytes l l output output′ written
@@ -58,18 +48,7 @@ module _ (bytes : List ℕ) (short : length bytes ≤ 65536) {l : PlanLists} (le
         → PlanningPromised bytes l l′ output output′ written
     map-answered B =
         let E = rw (inputs-read bytes short lent P a, count-told P a, segments-told P a) at B in
-        rw (passed-check bytes short lent P a)
-        (record {
-          text = E .text;
-          starts-after = read-told P a .starts-after;
-          heads-after = read-told P a .heads-after;
-          costs-after = read-told P a .costs-after;
-          holds-after = read-told P a .holds-after;
-          distances-after = E .left .distances-after;
-          parents-after = E .left .parents-after;
-          roster-after = E .left .roster-after;
-          work-after = E .left .work-after;
-        })
+        rw (passed-check bytes short lent P a) (record { text = E .text; lists = read-left bytes short lent P a _ (E .left) })
 
 -- What is written lies within the output.
 pub answer-within : {check : Check} {plan : Plan} {l l′ : PlanLists} {output output′ : List ℕ} {written : ℕ}

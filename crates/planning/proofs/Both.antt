@@ -15,11 +15,11 @@ use Rattle.theory.specs.Runs.{Inputs, Levels, one, two, fixedWords, workWords, 
 use Rattle.theory.proofs.Demands.{heaps-agree, allowed-segmented, one-level-demanded}
 use Rattle.checks.specs.Checks.{firstFault, runChecks, Lengths}
 use Rattle.checks.proofs.Valid.{passed-ready}
-use Rattle.runs.specs.Promise.{Lent, lent, lengthsOf, Ran, Promised}
+use Rattle.runs.specs.Promise.{Lent, lengthsOf, Ran, Promised}
 use Rattle.report.specs.Report.{nodeLines, acceptedText}
 use Rattle.fields.specs.Writing.{Writes}
 use Rattle.fields.proofs.Written.{writes-same}
-use Rattle.planning.specs.Planning.{PlanLists, heapsText, runsText, planLengths, BothReturned, BothRun}
+use Rattle.planning.specs.Planning.{PlanLists, lentOf, heapsText, runsText, planLengths, BothReturned, BothRun}
 
 -- ---- words written twice
 
@@ -74,10 +74,10 @@ module _ {L L′ : Levels} {I : Inputs} (words : fixedWords L ≤ fixedWords L�
 -- The runs of a planning file, on its lists.
 module _ (K : ℕ) (I : Inputs) (L L′ : PlanLists) where
   abbrev entry : Lent
-  entry = lent (L .distances) (L .parents) (L .roster) (L .work)
+  entry = lentOf L
 
   abbrev exit : Lent
-  exit = lent (L′ .distances) (L′ .parents) (L′ .roster) (L′ .work)
+  exit = lentOf L′
 
   abbrev first : Heap
   first = stepsOf one I

@@ -12,11 +12,11 @@ use Rattle.checks.specs.Checks.{firstFault, runChecks}
 use Rattle.reader.specs.declared.PlanAnswer.{PlanAnswer}
 use Rattle.reader.specs.declared.PlanAnswer.the-variants.{Read, Refused}
 use Rattle.plan_checks.specs.Checking.{planCheck}
-use Rattle.reader.specs.Plans.{planOf, planRun}
+use Rattle.reader.specs.Plans.{Plan, planOf, planRun}
 use Rattle.reader.specs.Promise.{PlanPromised}
 use Rattle.reader.proofs.Runnable.{Runnable, read-runnable, runs-pass}
-use Rattle.reader.proofs.Told.{refused, refused-told, passed, nodes-told, starts-front, heads-front, costs-front, holds-front, inputs-told}
-use Rattle.planning.specs.Planning.{planningCheck, PlanLists, planLists, planLengths, WordsLent, mapInputs, MapRunnable}
+use Rattle.reader.proofs.Told.{refused, refused-told, passed, read-told, nodes-told, starts-front, heads-front, costs-front, holds-front, inputs-told}
+use Rattle.planning.specs.Planning.{planningCheck, PlanLists, planLists, lentOf, RunLeft, ListsLeft, planLengths, WordsLent, mapInputs, MapRunnable}
 
 -- The lists with a map in them.
 abbrev pub mapIn : PlanLists → (starts heads costs holds : List ℕ) → PlanLists
@@ -25,6 +25,16 @@ mapIn l starts heads costs holds = planLists starts heads costs holds (l .distan
 pub long-check : (bytes : List ℕ) → 65536 < length bytes → planningCheck bytes ≡ Fault 13 0
 unfolding planningCheck
 long-check bytes long = rw (lt-ltb 65536 (length bytes) long) refl
+
+-- A refusal leaves every list as it was.
+pub refused-left : {number place : ℕ} {plan : Plan} {L : Levels} {l : PlanLists} → ListsLeft (Fault number place) plan L l l
+refused-left = record {
+  starts-after = refl;
+  heads-after = refl;
+  costs-after = refl;
+  holds-after = refl;
+  run-after = record { distances-after = refl; parents-after = refl; roster-after = refl; work-after = refl };
+}
 
 module _ (bytes : List ℕ) (short : length bytes ≤ 65536) {l : PlanLists} (lent : WordsLent l) {starts′ heads′ costs′ holds′ : List ℕ} {answer : PlanAnswer}
     (P : PlanPromised bytes (l .starts) (l .heads) (l .costs) (l .holds) starts′ heads′ costs′ holds′ answer) where
@@ -66,3 +76,16 @@ module _ (bytes : List ℕ) (short : length bytes ≤ 65536) {l : PlanLists} (le
           (runs-pass runnable L allowed (planLengths l) (omega (arith, few, lent .distances-words)) (omega (arith, few, lent .parents-words))
           (omega (arith, few, lent .roster-words)) (omega (arith, few, lent .work-words, words)));
     }
+
+    -- The map of the file, and behind it what its last run leaves.
+    pub read-left : (L : Levels) {distances′ parents′ roster′ work′ : List ℕ} → let l′ = planLists starts′ heads′ costs′ holds′ distances′ parents′ roster′ work′ in
+        RunLeft Passed L (planRun (planOf bytes)) (lentOf l) (lentOf l′) → ListsLeft Passed (planOf bytes) L l l′
+    read-left L left =
+        let told = read-told P a in
+        record {
+          starts-after = told .starts-after;
+          heads-after = told .heads-after;
+          costs-after = told .costs-after;
+          holds-after = told .holds-after;
+          run-after = left;
+        }

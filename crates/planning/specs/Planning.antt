@@ -9,10 +9,10 @@ use lib.ListN.{length, take, replicate}
 use Rattle.model.specs.declared.Check.{Check}
 use Rattle.model.specs.declared.Check.the-variants.{Passed, Fault}
 use Rattle.model.specs.Answers.{Numbers, wordsAfter}
-use Rattle.theory.specs.Heap.{Heap, placements}
+use Rattle.theory.specs.Heap.{placements}
 use Rattle.theory.specs.Runs.{Inputs, inputs, Levels, one, two, heapBuckets, workWords, stepsOf}
 use Rattle.checks.specs.Checks.{firstFault, runChecks, Lengths, lengthsFor}
-use Rattle.runs.specs.Promise.{runNumbers}
+use Rattle.runs.specs.Promise.{Lent, lent, runNumbers}
 use Rattle.fields.specs.Writing.{Writes}
 use Rattle.plan_checks.specs.Checking.{planCheck}
 use Rattle.reader.specs.Plans.{Plan, planOf, planStarts, planHeads, planCosts, planHolds, planRun}
@@ -29,10 +29,6 @@ mostBytes = 65536
 -- "Planning file"; document 02, paper 2).
 unfoldable pub planningCheck : (bytes : List ℕ) → Check
 planningCheck bytes = cond (ltb mostBytes (length bytes)) (Fault 13 0) (planCheck bytes 513 2048 2048 512)
-
--- The steps of the one-level run of a planning file (document 01, "One-level heap").
-abbrev pub planOneLevel : Plan → Heap
-planOneLevel plan = stepsOf one (planRun plan)
 
 -- The answer's text for m arcs and K, of the steps of both heaps over what the runs are given. Decreases, distances and parents are equal
 -- for both, and the one-level heap's are told (document 01, "Planning file"; document 02, paper 3).
@@ -80,19 +76,32 @@ planLists starts heads costs holds distances parents roster work = record {
   work = work;
 }
 
--- The text is written, and the lists hold the map and what the runs give back. The two-level run is made behind the one-level run; distances,
--- parents and roster are equal for both, and the one-level heap's are named (document 01, "Planning file" and "What the planner holds and
--- leaves out"; document 02, paper 6).
-pub record Answered (check : Check) (plan : Plan) (l l′ : PlanLists) (output output′ : List ℕ) (bytes : ℕ) : Type 0 where
-  pub text : Writes 0 (planAnswerText check plan) output output′ bytes
+-- Those of them that are lent to a run (document 01, "What the planner holds and leaves out").
+abbrev pub lentOf : PlanLists → Lent
+lentOf l = lent (l .distances) (l .parents) (l .roster) (l .work)
+
+-- What a run of this kind of heap leaves in the lists, whose checks come to `check`. Distances, parents and roster are equal for all kinds, and
+-- the one-level heap's are named (document 01, "What the planner holds and leaves out"; document 02, paper 6).
+pub record RunLeft (check : Check) (L : Levels) (I : Inputs) (l l′ : Lent) : Type 0 where
+  pub distances-after : l′ .distances ≡ wordsAfter check (stepsOf one I .search .distances) (l .distances)
+  pub parents-after : l′ .parents ≡ wordsAfter check (stepsOf one I .search .parents) (l .parents)
+  pub roster-after : l′ .roster ≡ wordsAfter check (stepsOf one I .search .roster) (l .roster)
+  pub work-after : l′ .work ≡ wordsAfter check (replicate (workWords L (I .map .nodes)) 0) (l .work)
+
+-- The lists afterwards, of a file that tells `plan` and whose checks come to `check`: its map, and what its last run leaves, which is one of this
+-- kind of heap (document 01, "Planning file").
+pub record ListsLeft (check : Check) (plan : Plan) (L : Levels) (l l′ : PlanLists) : Type 0 where
   pub starts-after : l′ .starts ≡ wordsAfter check (planStarts plan) (l .starts)
   pub heads-after : l′ .heads ≡ wordsAfter check (planHeads plan) (l .heads)
   pub costs-after : l′ .costs ≡ wordsAfter check (planCosts plan) (l .costs)
   pub holds-after : l′ .holds ≡ wordsAfter check (planHolds plan) (l .holds)
-  pub distances-after : l′ .distances ≡ wordsAfter check (planOneLevel plan .search .distances) (l .distances)
-  pub parents-after : l′ .parents ≡ wordsAfter check (planOneLevel plan .search .parents) (l .parents)
-  pub roster-after : l′ .roster ≡ wordsAfter check (planOneLevel plan .search .roster) (l .roster)
-  pub work-after : l′ .work ≡ wordsAfter check (replicate (workWords (two (plan .header .segments)) (plan .header .nodes)) 0) (l .work)
+  pub run-after : RunLeft check L (planRun plan) (lentOf l) (lentOf l′)
+
+-- The text is written, and the lists hold the map and what the runs leave; the two-level run is made behind the one-level run (document 01,
+-- "Planning file").
+pub record Answered (check : Check) (plan : Plan) (l l′ : PlanLists) (output output′ : List ℕ) (bytes : ℕ) : Type 0 where
+  pub text : Writes 0 (planAnswerText check plan) output output′ bytes
+  pub lists : ListsLeft check plan (two (plan .header .segments)) l l′
 
 -- From bytes to bytes, for every input (document 01, "Planning file" and "What a call returns").
 abbrev pub PlanningPromised : (bytes : List ℕ) → (l l′ : PlanLists) → (output output′ : List ℕ) → (written : ℕ) → Type 0
@@ -161,20 +170,13 @@ pub record BothRunnable (n m C source K : ℕ) (l : PlanLists) : Type 0 where
   pub one-level : MapRunnable one n m C source l
   pub two-level : MapRunnable (two K) n m C source l
 
--- What the lists hold behind both runs with K, over what they are given (document 01, "Planning file").
-pub record BothLeft (K : ℕ) (I : Inputs) (l l′ : PlanLists) : Type 0 where
-  pub distances-after : l′ .distances ≡ wordsAfter Passed (stepsOf one I .search .distances) (l .distances)
-  pub parents-after : l′ .parents ≡ wordsAfter Passed (stepsOf one I .search .parents) (l .parents)
-  pub roster-after : l′ .roster ≡ wordsAfter Passed (stepsOf one I .search .roster) (l .roster)
-  pub work-after : l′ .work ≡ wordsAfter Passed (replicate (workWords (two K) (I .map .nodes)) 0) (l .work)
-
 -- Both runs with K are made, and have returned these numbers (document 01, "What a call returns").
 pub record BothReturned (K : ℕ) (I : Inputs) (l l′ : PlanLists) (first second : Numbers) : Type 0 where
   pub first-numbers : first ≡ runNumbers Passed (heapBuckets one (I .ceiling)) (stepsOf one I)
   pub second-numbers : second ≡ runNumbers Passed (heapBuckets (two K) (I .ceiling)) (stepsOf (two K) I)
-  pub left : BothLeft K I l l′
+  pub left : RunLeft Passed (two K) I (lentOf l) (lentOf l′)
 
 -- Both runs of m arcs with K are made and told (document 01, "Planning file").
 pub record BothRun (m K : ℕ) (I : Inputs) (l l′ : PlanLists) (output output′ : List ℕ) (written : ℕ) : Type 0 where
   pub text : Writes 0 (heapsText m K I) output output′ written
-  pub left : BothLeft K I l l′
+  pub left : RunLeft Passed (two K) I (lentOf l) (lentOf l′)
