@@ -30,6 +30,12 @@ module _ (C : ℕ) (paidAt : ℕ → ℕ) (costs holds : List ℕ) where
   unfolding sumsCheck
   sums-pass h = each-passes 8 (sumFails C paidAt costs holds) (length costs) (λ a l. le-ltb C _ (h a l))
 
+  -- no cost is above what the greatest hold leaves
+  pub low-sums-pass : NoneAbove C holds → ((a : ℕ) → a < length costs → paidAt a < length holds) → {most : ℕ} → Greatest holds most
+      → NoneAbove (C - most) costs → Passed ≡ sumsCheck C paidAt costs holds
+  low-sums-pass holds-most held g low =
+      sym (sums-pass (λ a l. omega (arith, low a l, g .none-above (paidAt a) (held a l), g .least C holds-most)))
+
 -- ---- node by node
 
 -- A cost above what a hold leaves of C, and a sum above C.
@@ -102,12 +108,11 @@ module _ {n C : ℕ} {starts costs holds : List ℕ} (s : Summable n C starts co
 
   -- ---- all at once
 
-  -- No cost is above what the greatest hold leaves.
   pub low-costs-pass : {most : ℕ} → Greatest holds most → NoneAbove (C - most) costs → Passed ≡ sumsCheck C (tailOf n starts) costs holds
-  low-costs-pass {most} g low = sym (sums-pass C (tailOf n starts) costs holds each)
+  low-costs-pass = low-sums-pass C (tailOf n starts) costs holds (s .holds-most) held
     where
-      each : (a : ℕ) → a < length costs → getD costs a 0 + getD holds (tailOf n starts a) 0 ≤ C
-      each a l =
+      held : (a : ℕ) → a < length costs → tailOf n starts a < length holds
+      held a l =
           let tail = tailOf n starts a in
           let node : tail < n = leaves-node (s .sound) a tail (tail-leaves (s .sound) a (omega (arith, s .sound .costs-length))) in
-          omega (arith, low a l, g .none-above tail (omega (arith, s .sound .holds-length)), g .least C (s .holds-most))
+          omega (arith, s .sound .holds-length)

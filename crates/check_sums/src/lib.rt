@@ -20,7 +20,7 @@ pub fn sums_check(n: u32, ceiling: u32, starts: &[u32], costs: &[u32], holds: &[
     }
 }
 
-fn greatest(words: &[u32]) -> u32
+pub fn greatest(words: &[u32]) -> u32
     ensures { λ r. ⌜ Greatest (now (words .entry)) r ⌝ }
 {
     let mut most = 0;

@@ -12,12 +12,12 @@ use Rattle.theory.specs.Runs.{Inputs, Levels, one, two, workWords}
 use Rattle.check_numbers.specs.Numbers.{faultIf}
 use Rattle.check_lists.specs.Lists.{leastFault, wordAbove, startsCheck, headsCheck, holdsCheck}
 use Rattle.check_sums.specs.Sums.{sumsCheck}
-use Rattle.checks.specs.Checks.{firstFault, sizeChecks, listsChecks, mapChecks, LentList, lentChecks, Lengths, runLists, levelsChecks, runChecks}
+use Rattle.checks.specs.Checks.{firstFault, sizeChecks, listsChecks, summedChecks, LentList, lentChecks, Lengths, runLists, levelsChecks, callChecks, runChecks}
 use Rattle.checks.proofs.Order.{Every, none, more}
 
 -- ---- one check
 
-data Numbered : Check → Type 0 where
+pub data Numbered : Check → Type 0 where
   passed : Numbered Passed
   fault : {number place : ℕ} → 1 ≤ number → Numbered (Fault number place)
 
@@ -32,7 +32,7 @@ test : (number place : ℕ) (fails : Bool) → 1 ≤ number → Numbered (faultI
 unfolding faultIf
 test number place fails some = either fails (fault some) passed
 
-least : (number : ℕ) (fails : ℕ → Bool) → 1 ≤ number → (i left : ℕ) → Numbered (leastFault number fails i left)
+pub least : (number : ℕ) (fails : ℕ → Bool) → 1 ≤ number → (i left : ℕ) → Numbered (leastFault number fails i left)
 unfolding leastFault
 least number fails some i zero = passed
 least number fails some i (suc left) = either (fails i) (fault some) (least number fails some (suc i) left)
@@ -61,13 +61,13 @@ held : (n C : ℕ) (holds : List ℕ) → Numbered (holdsCheck n C holds)
 unfolding holdsCheck
 held n C holds = either (eqb (length holds) n) (least 20 (wordAbove C holds) (omega arith) 0 (length holds)) (fault (omega arith))
 
-map-numbered : (I : Inputs) → Every Numbered (mapChecks I)
-unfolding listsChecks mapChecks startsCheck headsCheck sumsCheck
-map-numbered I =
+summed : (I : Inputs) {sums : Check} → Numbered sums → Every Numbered (summedChecks I sums)
+unfolding listsChecks startsCheck headsCheck
+summed I p =
     every-parts
     (every-parts (sizes _ _ _ _ _ _)
     (more (least 6 _ (omega arith) _ _) (more (held (I .map .nodes) (I .ceiling) (I .map .holds)) (more (least 7 _ (omega arith) _ _) none))))
-    (more (least 8 _ (omega arith) _ _) none)
+    (more p none)
 
 levels : (L : Levels) → Every Numbered (levelsChecks L)
 levels one = none
@@ -78,9 +78,12 @@ unfolding lentChecks
 lent place [] = none
 lent place (list ∷ lists) = more (test 10 place _ (omega arith)) (lent (suc place) lists)
 
+pub call-number : (L : Levels) (I : Inputs) {sums : Check} → Numbered sums → (lists : List LentList) (number place : ℕ)
+    → firstFault (callChecks L I sums lists) ≡ Fault number place → 1 ≤ number
+call-number L I p lists number place e =
+    number-some (subst Numbered e (first-numbered _ (every-parts (summed I p) (every-parts (levels L) (lent 0 lists)))))
+
 pub fault-number : (L : Levels) (I : Inputs) (lengths : Lengths) (number place : ℕ) → firstFault (runChecks L I lengths) ≡ Fault number place → 1 ≤ number
-unfolding runChecks
+unfolding sumsCheck runChecks
 fault-number L I lengths number place e =
-    number-some
-    (subst Numbered e
-    (first-numbered _ (every-parts (map-numbered I) (every-parts (levels L) (lent 0 (runLists (I .map .nodes) lengths (workWords L (I .map .nodes))))))))
+    call-number L I (least 8 _ (omega arith) _ _) (runLists (I .map .nodes) lengths (workWords L (I .map .nodes))) number place e

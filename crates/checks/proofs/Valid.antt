@@ -18,7 +18,7 @@ use Rattle.check_lists.proofs.Start.{rise-passes, passed-fits}
 use Rattle.check_lists.proofs.Words.{heads-below, heads-pass, passed-holds, holds-pass}
 use Rattle.check_sums.specs.Sums.{Summable}
 use Rattle.check_sums.proofs.Sums.{passed-sums, sums-pass}
-use Rattle.checks.specs.Checks.{firstFault, sizeChecks, listsChecks, tailSumsCheck, mapChecks, lentChecks, runLists, levelsChecks, runChecks, Lengths, Ready}
+use Rattle.checks.specs.Checks.{firstFault, sizeChecks, listsChecks, tailSumsCheck, summedChecks, mapChecks, LentList, lentChecks, runLists, levelsChecks, callChecks, runChecks, Lengths, Ready}
 use Rattle.checks.proofs.Order.{AllPass, none, more, passed-all, all-passed, first-passed, pass-parts, parts-pass}
 use Rattle.checks.proofs.Sizes.{passed-range, range-passes, passed-ceiling, ceiling-passes, passed-source, source-passes, passed-arcs, arcs-pass, passed-starts, starts-pass, passed-lent, lent-passes}
 
@@ -145,12 +145,9 @@ module _ (I : Inputs) where
   abbrev tails : ℕ → ℕ
   tails a = tailOf n (I .map .starts) a
 
-  pub passed-valid : firstFault (mapChecks I) ≡ Passed → ValidInputs I
-  unfolding mapChecks
-  passed-valid e =
-      let p = pass-parts (listsChecks I) (tailSumsCheck I ∷ []) e in
-      let o = passed-ordered (p .0) in
-      let sums = passed-sums C tails costs holds (first-passed (passed-all (tailSumsCheck I ∷ []) (p .1))) in
+  summed-valid : Ordered I → tailSumsCheck I ≡ Passed → ValidInputs I
+  summed-valid o e =
+      let sums = passed-sums C tails costs holds e in
       record {
         sound = o .sound;
         low-ceiling = o .low-ceiling;
@@ -159,25 +156,74 @@ module _ (I : Inputs) where
             rw (tail-is (o .sound) a v h) at (sums a (omega (arith, leaves-arc (o .sound) a v h, o .sound .costs-length)));
       }
 
+  valid-ordered : ValidInputs I → Ordered I
+  valid-ordered v = record {
+    sound = v .sound;
+    low-ceiling = v .low-ceiling;
+    holds-most = λ i l. v .holds-most i (omega (arith, v .sound .holds-length));
+  }
+
+  valid-summed : ValidInputs I → tailSumsCheck I ≡ Passed
+  valid-summed v =
+      sums-pass C tails costs holds
+      (λ a l. v .sums-most a (tails a) (tail-leaves (v .sound) a (omega (arith, v .sound .costs-length))))
+
+  -- whichever hold 8 looks at
+  module _ (sums : Check) where
+    passed-summed : firstFault (summedChecks I sums) ≡ Passed → Ordered I × (sums ≡ Passed)
+    passed-summed e =
+        let p = pass-parts (listsChecks I) (sums ∷ []) e in
+        (passed-ordered (p .0), first-passed (passed-all (sums ∷ []) (p .1)))
+
+    summed-passed : Ordered I → sums ≡ Passed → firstFault (summedChecks I sums) ≡ Passed
+    summed-passed o e = parts-pass (listsChecks I) (sums ∷ []) (ordered-passed o) (all-passed (more e none))
+
+  pub passed-valid : firstFault (mapChecks I) ≡ Passed → ValidInputs I
+  unfolding mapChecks
+  passed-valid e = let p = passed-summed (tailSumsCheck I) e in summed-valid (p .0) (p .1)
+
   pub valid-passed : ValidInputs I → firstFault (mapChecks I) ≡ Passed
   unfolding mapChecks
-  valid-passed v =
-      let o : Ordered I = record {
-        sound = v .sound;
-        low-ceiling = v .low-ceiling;
-        holds-most = λ i l. v .holds-most i (omega (arith, v .sound .holds-length));
-      } in
-      let sums = sums-pass C tails costs holds
-      (λ a l. v .sums-most a (tails a) (tail-leaves (v .sound) a (omega (arith, v .sound .costs-length)))) in
-      parts-pass (listsChecks I) (tailSumsCheck I ∷ []) (ordered-passed o) (all-passed (more sums none))
+  valid-passed v = summed-passed (tailSumsCheck I) (valid-ordered v) (valid-summed v)
+
+-- ---- a call that runs
+
+-- K is allowed exactly if its check passes
+pub passed-allowed : (L : Levels) → firstFault (levelsChecks L) ≡ Passed → Allowed L
+passed-allowed one e = tt
+passed-allowed (two K) e = passed-range 9 K 2 64 (first-passed (passed-all _ e))
+
+allowed-passes : (L : Levels) → Allowed L → firstFault (levelsChecks L) ≡ Passed
+allowed-passes one a = all-passed none
+allowed-passes (two K) a = all-passed (more (range-passes 9 K 2 64 (a .0) (a .1)) none)
+
+-- The checks of a call that runs pass exactly if these do, whichever hold 8 looks at and whichever lists are lent.
+module _ (L : Levels) (I : Inputs) (sums : Check) (lists : List LentList) where
+  pub record CallPasses : Type 0 where
+    pub ordered : Ordered I
+    pub summed : sums ≡ Passed
+    pub allowed : Allowed L
+    pub lent : AllPass (lentChecks 0 lists)
+
+  pub passed-call : firstFault (callChecks L I sums lists) ≡ Passed → CallPasses
+  passed-call e =
+      let p = pass-parts (summedChecks I sums) (levelsChecks L ++ lentChecks 0 lists) e in
+      let q = pass-parts (levelsChecks L) (lentChecks 0 lists) (p .1) in
+      let map = passed-summed I sums (p .0) in
+      record { ordered = map .0; summed = map .1; allowed = passed-allowed L (q .0); lent = passed-all (lentChecks 0 lists) (q .1) }
+
+  pub call-passed : CallPasses → firstFault (callChecks L I sums lists) ≡ Passed
+  call-passed p =
+      parts-pass (summedChecks I sums) (levelsChecks L ++ lentChecks 0 lists) (summed-passed I sums (p .ordered) (p .summed))
+      (parts-pass (levelsChecks L) (lentChecks 0 lists) (allowed-passes L (p .allowed)) (all-passed (p .lent)))
 
 -- ---- a run
 
 module _ (L : Levels) (I : Inputs) (room : Lengths) where
-  abbrev lists : List Check
-  lists = lentChecks 0 (runLists (I .map .nodes) room (workWords L (I .map .nodes)))
+  abbrev lists : List LentList
+  lists = runLists (I .map .nodes) room (workWords L (I .map .nodes))
 
-  ready : ValidInputs I → Allowed L → AllPass lists → Ready L I room
+  ready : ValidInputs I → Allowed L → AllPass (lentChecks 0 lists) → Ready L I room
   unfolding lentChecks
   ready valid allowed (more first (more second (more third (more fourth none)))) = record {
     valid = valid;
@@ -188,7 +234,7 @@ module _ (L : Levels) (I : Inputs) (room : Lengths) where
     work-fit = passed-lent 3 (room .work) (workWords L (I .map .nodes)) fourth;
   }
 
-  lists-pass : Ready L I room → AllPass lists
+  lists-pass : Ready L I room → AllPass (lentChecks 0 lists)
   unfolding lentChecks
   lists-pass r =
       more (lent-passes 0 (room .distances) (I .map .nodes) (r .distances-fit))
@@ -196,26 +242,21 @@ module _ (L : Levels) (I : Inputs) (room : Lengths) where
       (more (lent-passes 2 (room .roster) (I .map .nodes) (r .roster-fit))
       (more (lent-passes 3 (room .work) (workWords L (I .map .nodes)) (r .work-fit)) none)))
 
--- K is allowed exactly if its check passes
-passed-allowed : (L : Levels) → firstFault (levelsChecks L) ≡ Passed → Allowed L
-passed-allowed one e = tt
-passed-allowed (two K) e = passed-range 9 K 2 64 (first-passed (passed-all _ e))
-
-allowed-passes : (L : Levels) → Allowed L → firstFault (levelsChecks L) ≡ Passed
-allowed-passes one a = all-passed none
-allowed-passes (two K) a = all-passed (more (range-passes 9 K 2 64 (a .0) (a .1)) none)
-
 -- The checks of a run pass exactly if it can be made.
 module _ {L : Levels} {I : Inputs} {room : Lengths} where
   pub passed-ready : firstFault (runChecks L I room) ≡ Passed → Ready L I room
   unfolding runChecks
   passed-ready e =
-      let p = pass-parts (mapChecks I) (levelsChecks L ++ lists L I room) e in
-      let q = pass-parts (levelsChecks L) (lists L I room) (p .1) in
-      ready L I room (passed-valid I (p .0)) (passed-allowed L (q .0)) (passed-all (lists L I room) (q .1))
+      let p = passed-call L I (tailSumsCheck I) (lists L I room) e in
+      ready L I room (summed-valid I (p .ordered) (p .summed)) (p .allowed) (p .lent)
 
   pub ready-passed : Ready L I room → firstFault (runChecks L I room) ≡ Passed
   unfolding runChecks
   ready-passed r =
-      parts-pass (mapChecks I) (levelsChecks L ++ lists L I room) (valid-passed I (r .valid))
-      (parts-pass (levelsChecks L) (lists L I room) (allowed-passes L (r .allowed)) (all-passed (lists-pass L I room r)))
+      call-passed L I (tailSumsCheck I) (lists L I room)
+      (record {
+        ordered = valid-ordered I (r .valid);
+        summed = valid-summed I (r .valid);
+        allowed = r .allowed;
+        lent = lists-pass L I room r;
+      })

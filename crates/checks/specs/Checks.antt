@@ -58,9 +58,14 @@ listsChecks I =
 abbrev pub tailSumsCheck : Inputs → Check
 tailSumsCheck I = sumsCheck (I .ceiling) (tailOf (I .map .nodes) (I .map .starts)) (I .map .costs) (I .map .holds)
 
+-- 1 to 6, 20 and 7, then 8 as `sums`, which is an arc's cost with its tail's hold, or with its head's where a run finds costs to a node
+-- (document 02, papers 2 and 7).
+abbrev pub summedChecks : Inputs → (sums : Check) → List Check
+summedChecks I sums = listsChecks I ++ (sums ∷ [])
+
 -- 1 to 6, 20, 7 and 8, the checks of a map that every run makes first (document 01, "What a call returns"; document 02, paper 2).
 unfoldable pub mapChecks : Inputs → List Check
-mapChecks I = listsChecks I ++ (tailSumsCheck I ∷ [])
+mapChecks I = summedChecks I (tailSumsCheck I)
 
 -- How long the lists lent to a run are: their places are 0 distances, 1 parents, 2 roster, 3 work (document 01, "What a call
 -- returns").
@@ -84,9 +89,14 @@ abbrev pub levelsChecks : Levels → List Check
 levelsChecks one = []
 levelsChecks (two K) = segmentsCheck K ∷ []
 
+-- The order of every call that runs: 1 to 6, 20, 7 and 8, then 9 for two levels, then 10 for the lent lists (document 01, "What a call
+-- returns"; document 02, papers 2 and 7).
+abbrev pub callChecks : Levels → Inputs → (sums : Check) → List LentList → List Check
+callChecks L I sums lists = summedChecks I sums ++ (levelsChecks L ++ lentChecks 0 lists)
+
 -- A run: 1 to 6, 20, 7 and 8, then 9 for two levels, then 10 (document 01, "What a call returns"; document 02, paper 2).
 unfoldable pub runChecks : Levels → Inputs → Lengths → List Check
-runChecks L I lengths = mapChecks I ++ (levelsChecks L ++ lentChecks 0 (runLists (I .map .nodes) lengths (workWords L (I .map .nodes))))
+runChecks L I lengths = callChecks L I (tailSumsCheck I) (runLists (I .map .nodes) lengths (workWords L (I .map .nodes)))
 
 -- What these checks show: inputs and lists on which a run can be made (document 01, "What a call returns").
 pub record Ready (L : Levels) (I : Inputs) (lengths : Lengths) : Type 0 where

@@ -109,7 +109,7 @@ pub fn file_lists_check(
     first_of(map, check_numbers::lent_check(3, holds, n as usize))
 }
 
-fn run_lists_check(
+pub fn run_lists_check(
     n: u32,
     distances: usize,
     parents: usize,

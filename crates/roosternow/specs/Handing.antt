@@ -7,6 +7,7 @@ use Rattle.model.specs.declared.RunAnswer.{RunAnswer}
 use Rattle.model.specs.Answers.{numbersOf}
 use Rattle.theory.specs.Runs.{Inputs, Levels, one, two}
 use Rattle.runs.specs.Promise.{Lent, Promised}
+use Rattle.destination.specs.Promise.{LentTo, PromisedTo}
 use Rattle.route.specs.declared.RouteAnswer.{RouteAnswer}
 use Rattle.route.specs.Routes.{routeNumbersOf, RoutePromised}
 use Rattle.reader.specs.declared.PlanAnswer.{PlanAnswer}
@@ -34,6 +35,20 @@ OneLevelHanded = RunHanded one
 -- The two-level run (document 01, "Two-level heap").
 abbrev pub TwoLevelHanded : (K : ℕ) → Inputs → (l l′ : Lent) → (numbers′ : List ℕ) → Type 0
 TwoLevelHanded K = RunHanded (two K)
+
+-- A run to a destination: its promise, and the numbers of its answer (document 02, paper 7).
+pub record RunToHanded (L : Levels) (I : Inputs) (l l′ : LentTo) (numbers′ : List ℕ) : Type 0 where
+  pub answer : RunAnswer
+  pub promised : PromisedTo L I answer l l′
+  pub numbers : numbers′ ≡ runWords (numbersOf answer)
+
+-- The one-level run to a destination (document 02, paper 7).
+abbrev pub OneLevelToHanded : Inputs → (l l′ : LentTo) → (numbers′ : List ℕ) → Type 0
+OneLevelToHanded = RunToHanded one
+
+-- The two-level run to a destination (document 02, paper 7).
+abbrev pub TwoLevelToHanded : (K : ℕ) → Inputs → (l l′ : LentTo) → (numbers′ : List ℕ) → Type 0
+TwoLevelToHanded K = RunToHanded (two K)
 
 -- A route: its promise, and the numbers of its answer (document 01, "Routes" and "What a call returns").
 pub record RouteHanded (n source : ℕ) (starts heads parents : List ℕ) (destination : ℕ) (words words′ numbers′ : List ℕ) : Type 0 where

@@ -21,7 +21,6 @@ use Rattle.state.specs.Stands.{Setting}
 use Rattle.search.specs.Starts.{Starts}
 use Rattle.theory.specs.Runs.{Inputs, ValidInputs, Levels, heapBuckets, segmentCount, removalLooks, workWords, stepsOf}
 use Rattle.checks.specs.Checks.{firstFault, runChecks, Ready}
-use Rattle.checks.proofs.Valid.{passed-ready}
 use Rattle.sizes.specs.Sizes.{sizesOf}
 use Rattle.runs.specs.Promise.{Lent, Ran, lengthsOf, Promised}
 use Rattle.runs.specs.Parts.{countsTold, Built, RunsOn, SomeRunsOn, Ended}
@@ -94,14 +93,16 @@ module _ {L : Levels} {I : Inputs} {B K needed : ℕ} {sizes : List ℕ} (l : Le
   built-ended left =
       (rw (built .buckets-are, built .segments-are, built .sizes-are, built .needed-are) at left) (setting (built .ready)) (runs-on l (built .ready))
 
--- The checks have come to `check`, and the numbers and sizes were computed from the inputs.
-module _ {L : Levels} {I : Inputs} {l : Lent} {check : Check} {B : ℕ} {sizes : List ℕ} (is : check ≡ firstFault (runChecks L I (lengthsOf l))) (passed : check ≡ Passed)
-    (buckets : B ≡ heapBuckets L (I .ceiling)) (computed : sizes ≡ sizesOf L) where
-  pub passed-built : Built L I B (segmentCount L) sizes (workWords L (I .map .nodes)) l
-  passed-built = record { ready = passed-ready (sym is ∙ passed); buckets-are = buckets; segments-are = refl; sizes-are = computed; needed-are = refl }
+-- Inputs and lists that have passed the checks, with numbers and sizes that were computed from them.
+pub ready-built : {L : Levels} {I : Inputs} {l : Lent} {B : ℕ} {sizes : List ℕ} → Ready L I (lengthsOf l) → B ≡ heapBuckets L (I .ceiling)
+    → sizes ≡ sizesOf L → Built L I B (segmentCount L) sizes (workWords L (I .map .nodes)) l
+ready-built ready buckets computed =
+    record { ready = ready; buckets-are = buckets; segments-are = refl; sizes-are = computed; needed-are = refl }
 
-  pub passed-ran : {r : RunAnswer} {l′ : Lent} → (Built L I B (segmentCount L) sizes (workWords L (I .map .nodes)) l → Ran L I Passed r l l′) → Promised L I r l l′
-  passed-ran ran = rw (sym is ∙ passed) (ran passed-built)
+-- The checks have come to `check`, which is that all pass.
+pub passed-ran : {L : Levels} {I : Inputs} {l l′ : Lent} {check : Check} {r : RunAnswer} → check ≡ firstFault (runChecks L I (lengthsOf l)) → check ≡ Passed
+    → Ran L I Passed r l l′ → Promised L I r l l′
+passed-ran is passed ran = rw (sym is ∙ passed) ran
 
 -- A refusal leaves every list as it was.
 pub refused-ran : {L : Levels} {I : Inputs} {check : Check} {number place : ℕ} {r : RunAnswer} {l : Lent} → check ≡ Fault number place

@@ -13,8 +13,9 @@ ghost use Rattle.model.specs.declared.Check.the-variants.{Passed};
 ghost use Rattle.theory.specs.Maps.{mapOf};
 ghost use Rattle.theory.specs.Heap.{heap};
 ghost use Rattle.state.specs.Stands.{Setting};
-ghost use Rattle.theory.specs.Runs.{Levels, inputs};
-ghost use Rattle.runs.specs.Promise.{Ran, OneLevelPromised, TwoLevelPromised, lent};
+ghost use Rattle.theory.specs.Runs.{Levels, one, two, inputs};
+ghost use Rattle.checks.specs.Checks.{Ready};
+ghost use Rattle.runs.specs.Promise.{Ran, OneLevelPromised, TwoLevelPromised, lent, lengthsOf};
 ghost use Rattle.runs.specs.Parts.{countsTold, Built, SomeBuilt, RunsOn, SomeRunsOn, Ended};
 
 // The counts of a run, from its tallies.
@@ -127,6 +128,91 @@ fn steps(
     model::accepted_run(state.reached, buckets, counts(state.tally))
 }
 
+// The one-level run of inputs and lists that have passed the checks.
+pub fn one_level_steps(
+    n: u32,
+    ceiling: u32,
+    source: Node,
+    starts: &[u32],
+    heads: &[u32],
+    costs: &[u32],
+    holds: &[u32],
+    distances: &mut [u32],
+    parents: &mut [u32],
+    roster: &mut [u32],
+    work: &mut [u32],
+) -> RunAnswer
+    requires { ⌜ Ready one (inputs n ceiling (source .0) (now starts) (now heads) (now costs) (now holds))
+        (lengthsOf (lent (now distances) (now parents) (now roster) (now work))) ⌝ }
+    ensures { λ r. ⌜ Ran one (inputs n ceiling (source .0) (now (starts .entry)) (now (heads .entry)) (now (costs .entry)) (now (holds .entry))) Passed r
+        (lent (now (distances .entry)) (now (parents .entry)) (now (roster .entry)) (now (work .entry)))
+        (lent (now (distances .exit)) (now (parents .exit)) (now (roster .exit)) (now (work .exit))) ⌝ }
+{
+    let buckets = sizes::one_level_buckets(ceiling);
+    let sizes = sizes::one_level_sizes();
+    let needed = 4 * n as usize + 64;
+    steps(
+        n,
+        ceiling,
+        source,
+        buckets,
+        1,
+        needed,
+        &sizes,
+        starts,
+        heads,
+        costs,
+        holds,
+        distances,
+        parents,
+        roster,
+        work,
+    )
+}
+
+// The two-level run of inputs and lists that have passed the checks.
+pub fn two_level_steps(
+    n: u32,
+    ceiling: u32,
+    source: Node,
+    segments: u32,
+    starts: &[u32],
+    heads: &[u32],
+    costs: &[u32],
+    holds: &[u32],
+    distances: &mut [u32],
+    parents: &mut [u32],
+    roster: &mut [u32],
+    work: &mut [u32],
+) -> RunAnswer
+    requires { ⌜ Ready (two segments) (inputs n ceiling (source .0) (now starts) (now heads) (now costs) (now holds))
+        (lengthsOf (lent (now distances) (now parents) (now roster) (now work))) ⌝ }
+    ensures { λ r. ⌜ Ran (two segments) (inputs n ceiling (source .0) (now (starts .entry)) (now (heads .entry)) (now (costs .entry)) (now (holds .entry))) Passed r
+        (lent (now (distances .entry)) (now (parents .entry)) (now (roster .entry)) (now (work .entry)))
+        (lent (now (distances .exit)) (now (parents .exit)) (now (roster .exit)) (now (work .exit))) ⌝ }
+{
+    let buckets = sizes::two_level_buckets(ceiling, segments);
+    let sizes = sizes::two_level_sizes(segments);
+    let needed = 4 * n as usize + 384;
+    steps(
+        n,
+        ceiling,
+        source,
+        buckets,
+        segments,
+        needed,
+        &sizes,
+        starts,
+        heads,
+        costs,
+        holds,
+        distances,
+        parents,
+        roster,
+        work,
+    )
+}
+
 // The one-level run.
 pub fn one_level(
     n: u32,
@@ -161,17 +247,10 @@ pub fn one_level(
     if let Check::Fault { number, place } = check {
         return model::refused_run(number, place);
     }
-    let buckets = sizes::one_level_buckets(ceiling);
-    let sizes = sizes::one_level_sizes();
-    let needed = 4 * n as usize + 64;
-    steps(
+    one_level_steps(
         n,
         ceiling,
         source,
-        buckets,
-        1,
-        needed,
-        &sizes,
         starts,
         heads,
         costs,
@@ -219,17 +298,11 @@ pub fn two_level(
     if let Check::Fault { number, place } = check {
         return model::refused_run(number, place);
     }
-    let buckets = sizes::two_level_buckets(ceiling, segments);
-    let sizes = sizes::two_level_sizes(segments);
-    let needed = 4 * n as usize + 384;
-    steps(
+    two_level_steps(
         n,
         ceiling,
         source,
-        buckets,
         segments,
-        needed,
-        &sizes,
         starts,
         heads,
         costs,

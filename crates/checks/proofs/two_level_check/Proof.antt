@@ -1,12 +1,12 @@
 -- `checks::two_level_check` meets its contract. Assumes nothing.
 use borrow.Author.Needs.{needs}
-use Rattle.checks.specs.Checks.{runChecks}
+use Rattle.checks.specs.Checks.{mapChecks, runChecks}
 use Rattle.checks.proofs.Order.{one, both}
 use Rattle.checks.proofs.two_level_check.Statement.{statement}
 use Rattle.checks.proofs.two_level_check.Tie as tie
 
 returns : tie.Need-returns
-unfolding runChecks
+unfolding mapChecks runChecks
 returns c =
     let made : tie.After-map-check = search needs in
     let segments : tie.After-segments-check = search needs in

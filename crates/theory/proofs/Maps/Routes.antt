@@ -13,7 +13,7 @@ use Rattle.theory.proofs.Lists.{inside}
 use Rattle.theory.proofs.Maps.Arcs.{linkOf, tail-hold-most, out-leaves, leaves-out, leaves-arc, leaves-once}
 
 -- One more arc at a route's end.
-route-snoc : {M : Map} {v w : ℕ} {route : List ℕ} (a : ℕ) → Route M v route w → Leaves M a w → Route M v (route ++ (a ∷ [])) (headOf M a)
+pub route-snoc : {M : Map} {v w : ℕ} {route : List ℕ} (a : ℕ) → Route M v route w → Leaves M a w → Route M v (route ++ (a ∷ [])) (headOf M a)
 route-snoc a Route.here h = Route.along a h Route.here
 route-snoc a (Route.along b g r) h = Route.along b g (route-snoc a r h)
 
@@ -23,7 +23,7 @@ endHold M [] = 0
 endHold M (a ∷ []) = holdOf M (headOf M a)
 endHold M (a ∷ b ∷ route) = endHold M (b ∷ route)
 
-end-snoc : (M : Map) (route : List ℕ) (a : ℕ) → endHold M (route ++ (a ∷ [])) ≡ holdOf M (headOf M a)
+pub end-snoc : (M : Map) (route : List ℕ) (a : ℕ) → endHold M (route ++ (a ∷ [])) ≡ holdOf M (headOf M a)
 unfolding endHold
 end-snoc M [] a = refl
 end-snoc M (b ∷ []) a = refl

@@ -1,0 +1,5 @@
+mod Numbers
+mod Written
+mod Placing
+mod Tails
+mod Reversing
