@@ -1,5 +1,5 @@
-"""A map's lists, as rows fill them, and what a call is refused for because of them, from document 01, "What a call returns", and from document
-02, paper 2, alone."""
+"""A map's lists, as rows fill them, and what a call is refused for because of them or of the lists it is lent, from document 01, "What a call
+returns", and from document 02, papers 2 and 7, alone."""
 import bisect
 
 WORD = 4294967296
@@ -10,9 +10,9 @@ def tail_of(starts, arc):
     return bisect.bisect_right(starts, arc) - 1
 
 
-def map_fault(n, source, starts, heads, costs=None, holds=None, ceiling=0):
-    """Refusals 1 to 6, 20, 7 and 8 in their order; a route has no costs, no holds and no ceiling. A refusal is (number, place), and None is
-    none."""
+def map_fault(n, source, starts, heads, costs=None, holds=None, ceiling=0, at_heads=False):
+    """Refusals 1 to 6, 20, 7 and 8 in their order; a route has no costs, no holds and no ceiling, and 8 of a run to a destination is with the
+    holds of heads. A refusal is (number, place), and None is none."""
     m = len(heads)
     if not 1 <= n <= 4096:
         return 1, 0
@@ -39,8 +39,24 @@ def map_fault(n, source, starts, heads, costs=None, holds=None, ceiling=0):
         if heads[arc] >= n:
             return 7, arc
     for arc in range(m if costs is not None else 0):
-        if costs[arc] + holds[tail_of(starts, arc)] > ceiling:
+        node = heads[arc] if at_heads else tail_of(starts, arc)
+        if costs[arc] + holds[node] > ceiling:
             return 8, arc
+    return None
+
+
+def work_words(n, segments):
+    return 4 * n + (64 if segments is None else 384)
+
+
+def lent_fault(n, m, lent, segments):
+    """Refusals 9 and 10 of a run, which is lent so many words of each list: four lists, or eight for a run to a destination."""
+    if segments is not None and not 2 <= segments <= 64:
+        return 9, 0
+    needed = [n, n, n, work_words(n, segments), n + 1, m, m, m]
+    for i, words in enumerate(lent):
+        if words < needed[i]:
+            return 10, i
     return None
 
 

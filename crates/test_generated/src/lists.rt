@@ -22,6 +22,8 @@ pub const COSTS: u32 = 4294967208;
 
 pub const HOLDS: u32 = 4294967210;
 
+pub const OLD_ARCS: u32 = 4294967211;
+
 // What the lists of a map are full of before it is put there.
 pub const MAP: u32 = 4294967209;
 

@@ -69,3 +69,16 @@ pub fn fill(table: &mut Table, row: u64, count: u64, number: u64) {
         v += 1;
     }
 }
+
+// The places up to a count at which two rows differ.
+pub fn differing(table: &Table, row: u64, other: u64, count: u64) -> u64 {
+    let mut found = 0;
+    let mut v = 0;
+    while v < count {
+        if get(table, row, v) != get(table, other, v) {
+            found = words::sum(found, 1);
+        }
+        v += 1;
+    }
+    found
+}

@@ -103,8 +103,11 @@ fn start_refusal(case: Case, lists: &Lists) -> Refusal {
 }
 
 // 20 of a run: holds not n words, or the least node whose hold is above the ceiling.
-fn hold_refusal(case: Case, lists: &Lists) -> Refusal {
+fn hold_refusal(levels: u32, case: Case, lists: &Lists) -> Refusal {
     let n = case.nodes as u64;
+    if levels == 0 {
+        return refuse(0, 0);
+    }
     if case.holds as u64 != n {
         return refuse(20, 0);
     }
@@ -126,16 +129,15 @@ fn head_refusal(case: Case, lists: &Lists) -> Refusal {
     refuse(0, 0)
 }
 
-// 8 and 9 of a run.
-fn cost_refusal(levels: u32, case: Case, lists: &Lists) -> Refusal {
+// 8 of a run.
+fn sum_refusal(levels: u32, case: Case, lists: &Lists) -> Refusal {
     let m = case.costs as u64;
+    if levels == 0 {
+        return refuse(0, 0);
+    }
     let arc = first_sum_above(case.nodes as u64, m, lists, case.ceiling as u64);
     if arc < m {
         return refuse(8, arc);
-    }
-    let segments = case.segments;
-    if (levels == 2) & ((segments < 2) | (segments > 64)) {
-        return refuse(9, 0);
     }
     refuse(0, 0)
 }
@@ -149,10 +151,13 @@ pub fn work_words(levels: u32, nodes: u32) -> u64 {
     words::sum(by_node, 384)
 }
 
-// 10.
-fn lent_refusal(levels: u32, case: Case) -> Refusal {
+// 9 and 10.
+pub fn lent_refusal(levels: u32, case: Case) -> Refusal {
     let n = case.nodes;
     let run = levels != 0;
+    if (levels == 2) & ((case.segments < 2) | (case.segments > 64)) {
+        return refuse(9, 0);
+    }
     if run & (case.distances < n) {
         return refuse(10, 0);
     }
@@ -168,29 +173,8 @@ fn lent_refusal(levels: u32, case: Case) -> Refusal {
     refuse(0, 0)
 }
 
-// The words of a run: 20, 7, 8 and 9.
-fn run_refusal(levels: u32, case: Case, lists: &Lists) -> Refusal {
-    let found = hold_refusal(case, lists);
-    if found.number != 0 {
-        return found;
-    }
-    let found = head_refusal(case, lists);
-    if found.number != 0 {
-        return found;
-    }
-    cost_refusal(levels, case, lists)
-}
-
-// Of a route 7 alone.
-fn word_refusal(levels: u32, case: Case, lists: &Lists) -> Refusal {
-    if levels == 0 {
-        return head_refusal(case, lists);
-    }
-    run_refusal(levels, case, lists)
-}
-
-// The first of 1 to 6, 20, and 7 to 10.
-pub fn refusal(levels: u32, case: Case, lists: &Lists) -> Refusal {
+// The first of 1 to 6, 20 and 7, whatever is lent besides the map.
+pub fn list_refusal(levels: u32, case: Case, lists: &Lists) -> Refusal {
     let number = number_refusal(levels != 0, case);
     if number != 0 {
         return refuse(number, 0);
@@ -199,7 +183,20 @@ pub fn refusal(levels: u32, case: Case, lists: &Lists) -> Refusal {
     if found.number != 0 {
         return found;
     }
-    let found = word_refusal(levels, case, lists);
+    let found = hold_refusal(levels, case, lists);
+    if found.number != 0 {
+        return found;
+    }
+    head_refusal(case, lists)
+}
+
+// The first of 1 to 6, 20, and 7 to 10.
+pub fn refusal(levels: u32, case: Case, lists: &Lists) -> Refusal {
+    let found = list_refusal(levels, case, lists);
+    if found.number != 0 {
+        return found;
+    }
+    let found = sum_refusal(levels, case, lists);
     if found.number != 0 {
         return found;
     }

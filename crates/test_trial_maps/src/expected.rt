@@ -1,5 +1,4 @@
 // What a run is expected to give: its refusal, or by the references its numbers and a table of its nodes.
-use test_generated::lists;
 use test_reference_counts::recount;
 use test_reference_map::case::Case;
 use test_reference_map::map::Lists;
@@ -25,24 +24,11 @@ pub struct Expected {
     pub differing: u64,
 }
 
-// The nodes, or places in the order, at which two rows differ.
-fn differing(table: &Table, row: u64, other: u64, count: u64) -> u64 {
-    let mut found = 0;
-    let mut v = 0;
-    while v < count {
-        let one = nodes::get(table, row, v);
-        let two = nodes::get(table, other, v);
-        found = words::sum(found, lists::differ(one, two));
-        v += 1;
-    }
-    found
-}
-
 fn all_differing(n: u64, reached: u64, table: &Table) -> u64 {
-    let distances = differing(table, nodes::DISTANCE, nodes::STEP_DISTANCE, n);
-    let parents = differing(table, nodes::PARENT, nodes::STEP_PARENT, n);
-    let order = differing(table, nodes::ORDER, nodes::STEP_ORDER, reached);
-    let walks = differing(table, nodes::DISTANCE, nodes::WALK, n);
+    let distances = nodes::differing(table, nodes::DISTANCE, nodes::STEP_DISTANCE, n);
+    let parents = nodes::differing(table, nodes::PARENT, nodes::STEP_PARENT, n);
+    let order = nodes::differing(table, nodes::ORDER, nodes::STEP_ORDER, reached);
+    let walks = nodes::differing(table, nodes::DISTANCE, nodes::WALK, n);
     words::sum(words::sum(distances, parents), words::sum(order, walks))
 }
 

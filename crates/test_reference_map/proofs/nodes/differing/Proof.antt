@@ -1,8 +1,8 @@
--- `test_trial_maps::expected::differing` meets its contract. The measure: the places left.
+-- `test_reference_map::nodes::differing` meets its contract. The measure: the places left.
 use Prim.Native.Nat.{_-_}
 use borrow.Author.Needs.{needs}
-use Rattle.test_trial_maps.proofs.expected.differing.Statement.{statement}
-use Rattle.test_trial_maps.proofs.expected.differing.Tie as tie
+use Rattle.test_reference_map.proofs.nodes.differing.Statement.{statement}
+use Rattle.test_reference_map.proofs.nodes.differing.Tie as tie
 
 abbrev Inv-loop : tie.InvT-loop
 Inv-loop table row other count found₀ v₀ found v = Unit
@@ -17,7 +17,6 @@ differing-spec =
     Inv-loop
     μ-loop
     (λ c. search needs)
-    (λ c κs. search needs)
     (λ c κs. search needs)
     (λ c κs. search needs)
     (λ c κs. search needs)
