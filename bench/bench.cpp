@@ -1,4 +1,5 @@
-// Measures both heaps beside their peers and prints tables in Markdown: bench [SAMPLES]
+// Measures both heaps beside their peers, or runs to a destination beside runs on a map reversed before, and prints tables in Markdown:
+// bench [--to] [SAMPLES]
 #include "measure.hpp"
 
 #include <cmath>
@@ -132,6 +133,29 @@ static std::vector<Map> growing_arcs() {
     return maps;
 }
 
+// What reversing costs within a run to a destination. The arcs of each map are turned round, so that its source is reached from where it led.
+static void print_to(int samples) {
+    const std::vector<Kind> kinds = {
+        {"to a destination", [](const Map &map) { return std::make_unique<PlannerTo>(map, 64); }},
+        {"a run on the map reversed before", [](const Map &map) { return std::make_unique<PlannerReversed>(map, 64); }},
+    };
+    double logarithms = 0;
+    const std::vector<Map> maps = measured_maps();
+    std::printf("Two levels, K 64, on maps turned round: median microseconds of one run, %d samples each, and their difference, also in nanoseconds\n"
+                "by the number of arcs.\n\n",
+                samples);
+    print_head("Map turned round", {kinds[0].name, kinds[1].name, "ratio", "difference", "ns an arc"});
+    for (const Map &map : maps) {
+        const Map turned = reversed(map);
+        const std::vector<double> medians = measure(turned, kinds, samples);
+        const double difference = medians[0] - medians[1], ratio = medians[0] / medians[1];
+        print_cells({map.name, shown(medians[0], "%.1f"), shown(medians[1], "%.1f"), shown(ratio, "%.2f"), shown(difference, "%.1f"),
+                     shown(1000 * difference / map.heads.size(), "%.2f")});
+        logarithms += std::log(ratio);
+    }
+    print_cells({"**geometric mean**", "", "", shown(std::exp(logarithms / maps.size()), "**%.2f**"), "", ""});
+}
+
 // A number from 1 of at most 6 digits; 0 for any other word.
 static int samples_of(const std::string &word) {
     bool digits = word.find_first_not_of("0123456789") == std::string::npos;
@@ -139,10 +163,15 @@ static int samples_of(const std::string &word) {
 }
 
 int main(int count, char **words) {
-    const int samples = count > 1 ? samples_of(words[1]) : 101;
-    if (count > 2 || samples == 0) {
-        std::fprintf(stderr, "use: bench [SAMPLES], a number from 1 of at most 6 digits\n");
+    const int to = count > 1 && words[1] == std::string("--to") ? 1 : 0;
+    const int samples = count > 1 + to ? samples_of(words[1 + to]) : 101;
+    if (count > 2 + to || samples == 0) {
+        std::fprintf(stderr, "use: bench [--to] [SAMPLES], a number from 1 of at most 6 digits\n");
         return 2;
+    }
+    if (to) {
+        print_to(samples);
+        return 0;
     }
     const std::vector<Map> maps = measured_maps();
     std::vector<Kind> kinds = {planner_kind("one level", 0), planner_kind("two levels, K 64", 64)};

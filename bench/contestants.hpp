@@ -65,6 +65,48 @@ private:
     std::uint64_t numbers[ROOSTERNOW_RUN_NUMBERS];
 };
 
+// The planner to a destination, which is the map's source: the map is reversed inside the run.
+class PlannerTo : public Contestant {
+public:
+    PlannerTo(const Map &map, std::uint32_t segments)
+        : map(map), segments(segments), holds(map.n), found(map.n), parents(map.n), roster(map.n), work(ROOSTERNOW_WORK_TWO_LEVEL(map.n)),
+          reversed_starts(ROOSTERNOW_REVERSED_STARTS(map.n)), reversed_heads(ROOSTERNOW_REVERSED_BY_ARC(map.heads.size())),
+          reversed_costs(reversed_heads.size()), old_arcs(reversed_heads.size()) {}
+
+    void run() override {
+        const std::size_t n = map.n, m = map.heads.size();
+        roosternow_two_level_to(map.n, map.ceiling, map.source, segments, map.starts.data(), n + 1, map.heads.data(), m, map.costs.data(), m,
+                                holds.data(), n, found.data(), n, parents.data(), n, roster.data(), n, work.data(), work.size(),
+                                reversed_starts.data(), n + 1, reversed_heads.data(), m, reversed_costs.data(), m, old_arcs.data(), m, numbers);
+        if (numbers[ROOSTERNOW_RETURNED] != ROOSTERNOW_ACCEPTED) {
+            std::cerr << map.name << ": " << roosternow_refusal_text(numbers[ROOSTERNOW_RETURNED]) << "\n";
+            std::exit(1);
+        }
+    }
+
+    std::vector<std::uint32_t> distances() const override { return found; }
+
+private:
+    const Map &map;
+    std::uint32_t segments;
+    std::vector<std::uint32_t> holds, found, parents, roster, work, reversed_starts, reversed_heads, reversed_costs, old_arcs;
+    std::uint64_t numbers[ROOSTERNOW_RUN_NUMBERS];
+};
+
+// The planner on a map that is reversed before anything is measured: what a run to a destination costs without that.
+class PlannerReversed : public Contestant {
+public:
+    PlannerReversed(const Map &map, std::uint32_t segments) : back(reversed(map)), planner(back, segments) {}
+
+    void run() override { planner.run(); }
+
+    std::vector<std::uint32_t> distances() const override { return planner.distances(); }
+
+private:
+    const Map back;
+    Planner planner;
+};
+
 // The textbook search: a node is pushed at each improvement, and passed over where it was scanned.
 class PriorityQueue : public Contestant {
 public:

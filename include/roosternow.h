@@ -22,14 +22,15 @@
  *   that one of them writes is used by another at that time. A function calls nothing back, does not block and always returns.
  * - In an interrupt handler: the code of this archive, as disassembled, uses the general registers and xmm0 to xmm6 (SSE2), nothing of x87,
  *   MMX or AVX. So a handler saves the SSE registers before a call, and all vector registers if its `memset` uses wider ones, as that of a C
- *   library may. The checks of a map, in the runs and roosternow_write, use the red zone: an interrupt of the handler itself leaves the 128
+ *   library may. A function may use the red zone, as its calling convention lets it: an interrupt of the handler itself leaves the 128
  *   bytes below the stack pointer as they are, or has another stack. The stack is aligned to 16 bytes as for every call and has the bytes
  *   that the function's "Costs" name; `memset` is bound before, by a static link or `-z now`, since a dynamic linker that binds it in the
  *   call takes stack of its own.
  * - A function refuses, with a number and a place, whatever it is not to work on (enum roosternow_refusal); nothing has to be checked by
  *   the caller but the rules above.
- * - r is the number of reached nodes, the source included, and B the number of buckets: ceil(log2(C + 1)) + 2 for the one-level heap, at
- *   most 22; max(2, ceil(logK(C + 1)) + 1) for the two-level heap, at most 5 for K = 64.
+ * - r is the number of reached nodes, the source included (of a run to a destination: of nodes that reach it, the destination included), and
+ *   B the number of buckets: ceil(log2(C + 1)) + 2 for the one-level heap, at most 22; max(2, ceil(logK(C + 1)) + 1) for the two-level heap,
+ *   at most 5 for K = 64.
  *
  * Changes. Versions are MAJOR.MINOR. Within a major version functions, refusals (the next free numbers) and macros may be added, and
  * nothing that is here changes its name, its parameters, its numbers or their places. A new major version may change all of it. A program
@@ -53,7 +54,8 @@
 #define ROOSTERNOW_LEAST_SEGMENTS 2u
 #define ROOSTERNOW_MOST_SEGMENTS 64u
 
-/* "None": the distance of an unreached node, the parent of the source and of unreached nodes. */
+/* "None": the distance of an unreached node, the parent of the source and of unreached nodes; in a run to a destination of those that do not
+   reach it, and its own parent. */
 #define ROOSTERNOW_NONE UINT32_C(4294967295)
 
 /* Words to lend for n nodes: starts, work of each run, and each of holds, distances, parents, roster and route. */
@@ -61,6 +63,11 @@
 #define ROOSTERNOW_WORK_ONE_LEVEL(n) (4u * (size_t)(n) + 64u)
 #define ROOSTERNOW_WORK_TWO_LEVEL(n) (4u * (size_t)(n) + 384u)
 #define ROOSTERNOW_BY_NODE(n) ((size_t)(n))
+
+/* Words of the working lists of a run to a destination, for n nodes and m arcs: reversed_starts, and each of reversed_heads, reversed_costs and
+   old_arcs. */
+#define ROOSTERNOW_REVERSED_STARTS(n) ((size_t)(n) + 1u)
+#define ROOSTERNOW_REVERSED_BY_ARC(m) ((size_t)(m))
 
 /* Bytes to lend to roosternow_write, enough for the planning file of every map of n nodes and m arcs: line 1 has at most 29 bytes, the line of
    an arc 18 and that of a hold 8. */
@@ -100,7 +107,7 @@ extern "C" {
 enum roosternow_number {
     ROOSTERNOW_RETURNED = 0, /* enum roosternow_refusal */
     ROOSTERNOW_PLACE = 1,    /* the refusal's place, 0 where it has none */
-    /* one_level, two_level */
+    /* one_level, two_level, one_level_to, two_level_to */
     ROOSTERNOW_REACHED = 2,    /* r */
     ROOSTERNOW_BUCKETS = 3,    /* B */
     ROOSTERNOW_DECREASES = 4,  /* decreases + r <= m + 1 */
@@ -124,7 +131,7 @@ enum roosternow_refusal {
     ROOSTERNOW_ACCEPTED = 0,
     ROOSTERNOW_BAD_NODES = 1,
     ROOSTERNOW_BAD_CEILING = 2,
-    ROOSTERNOW_BAD_SOURCE = 3,
+    ROOSTERNOW_BAD_SOURCE = 3, /* a run to a destination: the destination */
     ROOSTERNOW_BAD_ARCS = 4,
     ROOSTERNOW_BAD_STARTS_LENGTH = 5,
     ROOSTERNOW_BAD_STARTS = 6, /* place: least such index */
@@ -150,12 +157,12 @@ static inline const char *roosternow_refusal_text(uint64_t returned) {
     case ROOSTERNOW_ACCEPTED: return "accepted";
     case ROOSTERNOW_BAD_NODES: return "n outside 1 to 4,096";
     case ROOSTERNOW_BAD_CEILING: return "C above 1,048,575";
-    case ROOSTERNOW_BAD_SOURCE: return "source not below n";
+    case ROOSTERNOW_BAD_SOURCE: return "source, or destination of a run to it, not below n";
     case ROOSTERNOW_BAD_ARCS: return "more than 65,536 arcs, or heads and costs differ in length";
     case ROOSTERNOW_BAD_STARTS_LENGTH: return "starts not n + 1 words";
     case ROOSTERNOW_BAD_STARTS: return "starts: first not 0, one below its predecessor or above m, or last not m";
     case ROOSTERNOW_BAD_HEAD: return "head not below n; in a road file outside 1 to n";
-    case ROOSTERNOW_BAD_COST: return "cost above C, by itself or with its tail's hold";
+    case ROOSTERNOW_BAD_COST: return "cost above C, by itself or with its tail's hold, in a run to a destination its head's";
     case ROOSTERNOW_BAD_SEGMENTS: return "K outside 2 to 64";
     case ROOSTERNOW_SHORT_LIST: return "lent list too short";
     case ROOSTERNOW_BAD_LINE: return "line missing, ill-formed or left over";
@@ -191,9 +198,9 @@ static inline uint64_t roosternow_most_operations(uint32_t n, uint32_t m, uint32
 }
 
 /*
- * The most heap operations of a run, placements, looks and reads together, on any map with n nodes and m arcs: a budget before a map is
- * known. With R the smaller of n and m + 1: R * (5 * B - 4) + 3 * m + 3 for one level, R * (5 * B + K - 4) + 3 * m + 3 for two. 0 for a size
- * that the run refuses, since a refused run makes none. The largest size, with K = 64, has 630,787 and 544,771.
+ * The most heap operations of a run, one to a destination too, placements, looks and reads together, on any map with n nodes and m arcs: a
+ * budget before a map is known. With R the smaller of n and m + 1: R * (5 * B - 4) + 3 * m + 3 for one level, R * (5 * B + K - 4) + 3 * m + 3
+ * for two. 0 for a size that the run refuses, since a refused run makes none. The largest size, with K = 64, has 630,787 and 544,771.
  */
 static inline uint64_t roosternow_most_operations_one_level(uint32_t n, uint32_t m, uint32_t ceiling) {
     uint64_t buckets = roosternow_exponent_above(2, ceiling) + 2u;
@@ -260,6 +267,67 @@ void roosternow_two_level(uint32_t n, uint32_t ceiling, uint32_t source, uint32_
                           uint32_t *roster, size_t roster_words,
                           uint32_t *work, size_t work_words,
                           uint64_t numbers[ROOSTERNOW_LENT(ROOSTERNOW_RUN_NUMBERS)]);
+
+/*
+ * The one-level run to a destination: cheapest routes to it from every node, by a run from it over the reversed map.
+ *
+ * Needs: as roosternow_one_level, with the destination as source, but no cost exceeds C together with the hold of its arc's head, not tail,
+ *   arcs into the destination included though they pay none. So a map that a run takes may be refused here, and conversely. Besides four working
+ *   lists: n + 1 words of reversed_starts and m words of each of reversed_heads, reversed_costs and old_arcs. None of the eight lists has to be
+ *   cleared.
+ * Gives: distances[v], the least cost of a route from v to the destination, and parents[v], the first arc to take from v on such a route, by
+ *   the map's own number; ROOSTERNOW_NONE where there is none. parents[v], then the parent of its head, and so on, lead to the destination for
+ *   distances[v]; roosternow_route does not take these parents, since it follows them backwards. The working lists hold the reversed map:
+ *   the arcs that lead to v, by number, have the places reversed_starts[v] up to but not including reversed_starts[v + 1], and the arc at place
+ *   i comes from node reversed_heads[i], costs reversed_costs[i], without holds, and has the number old_arcs[i]. Roster, parents and numbers
+ *   are by the steps of roosternow_one_level on this map: roster[0] to roster[r - 1] are the nodes that reach the destination, in the order in
+ *   which they are scanned, the destination first, and a parent is the first arc examined that gives the distance, which need not be the one of
+ *   smallest number. roosternow_one_level takes this map with the same C and holds; with another destination as source it gives what a run to
+ *   that one gives, but for parents, which are places of old_arcs. Words past the n + 1 and m of the working lists, and from roster[r] on, are
+ *   as they were. The ROOSTERNOW_WORK_ONE_LEVEL(n) first work words are 0. numbers: 0, 0, r, B, decreases, placements, looks, reads.
+ * Refuses: 1, 2, 3 (the destination), 4 to 6, 20, 7, 8 with the least arc whose cost is above C together with the hold of its head, then 10
+ *   with place 0 distances, 1 parents, 2 roster, 3 work, 4 reversed_starts, 5 reversed_heads, 6 reversed_costs, 7 old_arcs; in this order, the
+ *   first found.
+ * Costs: time as roosternow_one_level, with the reversed map made before, in proportion to n + m; stack below 2 KB.
+ */
+void roosternow_one_level_to(uint32_t n, uint32_t ceiling, uint32_t destination,
+                             const uint32_t *starts, size_t starts_words,
+                             const uint32_t *heads, size_t heads_words,
+                             const uint32_t *costs, size_t costs_words,
+                             const uint32_t *holds, size_t holds_words,
+                             uint32_t *distances, size_t distances_words,
+                             uint32_t *parents, size_t parents_words,
+                             uint32_t *roster, size_t roster_words,
+                             uint32_t *work, size_t work_words,
+                             uint32_t *reversed_starts, size_t reversed_starts_words,
+                             uint32_t *reversed_heads, size_t reversed_heads_words,
+                             uint32_t *reversed_costs, size_t reversed_costs_words,
+                             uint32_t *old_arcs, size_t old_arcs_words,
+                             uint64_t numbers[ROOSTERNOW_LENT(ROOSTERNOW_RUN_NUMBERS)]);
+
+/*
+ * The two-level run to a destination: the same with `segments` K segments to a bucket, 2 to 64. Which K: as for roosternow_two_level.
+ *
+ * Needs: as roosternow_one_level_to, with ROOSTERNOW_WORK_TWO_LEVEL(n) words of work.
+ * Gives: as roosternow_one_level_to, with distances, parents, roster, working lists, r and decreases equal to its own, for every K, and
+ *   ROOSTERNOW_WORK_TWO_LEVEL(n) work words 0.
+ * Refuses: as roosternow_one_level_to, with 9 between 8 and 10.
+ * Costs: time as roosternow_two_level, with the reversed map made before, in proportion to n + m; stack below 4 KB.
+ */
+void roosternow_two_level_to(uint32_t n, uint32_t ceiling, uint32_t destination, uint32_t segments,
+                             const uint32_t *starts, size_t starts_words,
+                             const uint32_t *heads, size_t heads_words,
+                             const uint32_t *costs, size_t costs_words,
+                             const uint32_t *holds, size_t holds_words,
+                             uint32_t *distances, size_t distances_words,
+                             uint32_t *parents, size_t parents_words,
+                             uint32_t *roster, size_t roster_words,
+                             uint32_t *work, size_t work_words,
+                             uint32_t *reversed_starts, size_t reversed_starts_words,
+                             uint32_t *reversed_heads, size_t reversed_heads_words,
+                             uint32_t *reversed_costs, size_t reversed_costs_words,
+                             uint32_t *old_arcs, size_t old_arcs_words,
+                             uint64_t numbers[ROOSTERNOW_LENT(ROOSTERNOW_RUN_NUMBERS)]);
 
 /*
  * The route from the source to a destination, by a parent table that a run has filled or that comes from elsewhere.

@@ -1,4 +1,5 @@
-"""Both heaps and every route from Python, through a shared object made of the archive: routes.py LIBRARY < FILE
+"""Both heaps and every route from the source of a file, or to a node, from Python, through a shared object made of the archive:
+routes.py LIBRARY [NODE] < FILE
 
 The shared object: gcc -shared -o libroosternow.so -Wl,--whole-archive libroosternow.a -Wl,--no-whole-archive
 """
@@ -36,19 +37,19 @@ def called(function, count, *arguments):
     return numbers[2:]
 
 
-def main(planner, data):
-    file = (ctypes.c_uint8 * len(data)).from_buffer_copy(data)
-    starts, heads, costs, holds = words(NODES + 1), words(ARCS), words(ARCS), words(NODES)
-    n, m, ceiling, source, segments = called(planner.roosternow_read, 7, *lent(file, starts, heads, costs, holds))
-    starts, heads, costs, holds = first(n + 1, starts), first(m, heads), first(m, costs), first(n, holds)
+def print_counts(n, m, one, two):
+    print("%d,%d,%d,%d" % (n, m, two[0], two[2]))
+    print("one,%d,%d,%d,%d" % (one[1], *one[3:]))
+    print("two,%d,%d,%d,%d" % (two[1], *two[3:]))
+
+
+def from_source(planner, n, ceiling, source, segments, starts, heads, costs, holds):
     distances, parents, roster, route = words(n), words(n), words(n), words(n)
     size = [number(n), number(ceiling), number(source)]
     lists = lent(starts, heads, costs, holds, distances, parents, roster)
     one = called(planner.roosternow_one_level, 8, *size, *lists, *lent(words(4 * n + 64)))
     two = called(planner.roosternow_two_level, 8, *size, number(segments), *lists, *lent(words(4 * n + 384)))
-    print("%d,%d,%d,%d" % (n, m, two[0], two[2]))
-    print("one,%d,%d,%d,%d" % (one[1], *one[3:]))
-    print("two,%d,%d,%d,%d" % (two[1], *two[3:]))
+    print_counts(n, len(heads), one, two)
     for node in range(n):
         if distances[node] != NONE:
             walked = [number(n), number(source), *lent(starts, heads, parents), number(node), *lent(route)]
@@ -56,12 +57,40 @@ def main(planner, data):
             print(node, distances[node], *route[:nodes], sep=",")
 
 
+def to_node(planner, n, ceiling, destination, segments, starts, heads, costs, holds):
+    m = len(heads)
+    distances, parents, roster = words(n), words(n), words(n)
+    size = [number(n), number(ceiling), number(destination)]
+    lists = lent(starts, heads, costs, holds, distances, parents, roster)
+    reversed_map = lent(words(n + 1), words(m), words(m), words(m))
+    one = called(planner.roosternow_one_level_to, 8, *size, *lists, *lent(words(4 * n + 64)), *reversed_map)
+    two = called(planner.roosternow_two_level_to, 8, *size, number(segments), *lists, *lent(words(4 * n + 384)), *reversed_map)
+    print_counts(n, m, one, two)
+    for node in range(n):
+        if distances[node] != NONE:
+            route = [node]
+            while route[-1] != destination:
+                route.append(heads[parents[route[-1]]])
+            print(node, distances[node], *route, sep=",")
+
+
+def main(planner, data, destination):
+    file = (ctypes.c_uint8 * len(data)).from_buffer_copy(data)
+    starts, heads, costs, holds = words(NODES + 1), words(ARCS), words(ARCS), words(NODES)
+    n, m, ceiling, source, segments = called(planner.roosternow_read, 7, *lent(file, starts, heads, costs, holds))
+    lists = first(n + 1, starts), first(m, heads), first(m, costs), first(n, holds)
+    if destination is None:
+        from_source(planner, n, ceiling, source, segments, *lists)
+    else:
+        to_node(planner, n, ceiling, destination, segments, *lists)
+
+
 if __name__ == "__main__":
-    if len(sys.argv) != 2:
-        print("use: routes.py LIBRARY < FILE", file=sys.stderr)
+    if len(sys.argv) not in (2, 3) or not "".join(sys.argv[2:] or "0").isdecimal():
+        print("use: routes.py LIBRARY [NODE] < FILE", file=sys.stderr)
         sys.exit(2)
     try:
-        main(ctypes.CDLL(sys.argv[1]), sys.stdin.buffer.read())
+        main(ctypes.CDLL(sys.argv[1]), sys.stdin.buffer.read(), int(sys.argv[2]) if len(sys.argv) == 3 else None)
     except ValueError as refusal:
         print("routes.py:", refusal, file=sys.stderr)
         sys.exit(1)

@@ -23,12 +23,15 @@ static bool one_in(uint32_t chances) {
 
 /* ---- what was called */
 
-enum function { ONE_LEVEL, TWO_LEVEL, ROUTE, READ, READ_DIMACS, WRITE, ANSWER, FUNCTIONS };
+enum function { ONE_LEVEL, TWO_LEVEL, ONE_LEVEL_TO, TWO_LEVEL_TO, ROUTE, READ, READ_DIMACS, WRITE, ANSWER, FUNCTIONS };
 
 #define REFUSALS 21
+#define LISTS_TO 8 /* that a run to a destination fills */
 
-static const char *const names[FUNCTIONS] = {"one_level", "two_level", "route", "read", "read_dimacs", "write", "answer"};
+static const char *const names[FUNCTIONS] = {"one_level", "two_level", "one_level_to", "two_level_to", "route", "read", "read_dimacs", "write",
+                                             "answer"};
 static uint64_t told[FUNCTIONS][REFUSALS], told_held[FUNCTIONS], told_sums[FUNCTIONS];
+static uint64_t told_places[FUNCTIONS][LISTS_TO], taken_here[FUNCTIONS], taken_by_a_run[FUNCTIONS];
 static uint64_t input;
 
 static void expect(bool holds, const char *what) {
@@ -95,11 +98,14 @@ static void compare(const struct list *list, const void *expected, size_t filled
 }
 
 static struct list starts, heads, costs, holds, distances, parents, roster, work, route, bytes, written, output, run_numbers, route_numbers;
+static struct list reversed_starts, reversed_heads, reversed_costs, old_arcs;
 
 static void make_lists(void) {
     starts = make(4, PLAIN_NODES + 8), heads = make(4, PLAIN_ARCS + 8), costs = make(4, PLAIN_ARCS + 8), holds = make(4, PLAIN_NODES + 8);
     distances = make(4, PLAIN_NODES + 8), parents = make(4, PLAIN_NODES + 8), roster = make(4, PLAIN_NODES + 8);
     work = make(4, 4 * PLAIN_NODES + 400), route = make(4, PLAIN_NODES + 8);
+    reversed_starts = make(4, PLAIN_NODES + 8), reversed_heads = make(4, PLAIN_ARCS + 8), reversed_costs = make(4, PLAIN_ARCS + 8);
+    old_arcs = make(4, PLAIN_ARCS + 8);
     bytes = make(1, 36 * (PLAIN_ARCS + 8)), written = make(1, ROOSTERNOW_PLAN_BYTES(PLAIN_NODES, PLAIN_ARCS) + 64);
     output = make(1, ROOSTERNOW_ANSWER_BYTES);
     run_numbers = make(8, ROOSTERNOW_RUN_NUMBERS), route_numbers = make(8, ROOSTERNOW_ROUTE_NUMBERS);
@@ -107,7 +113,8 @@ static void make_lists(void) {
 
 static void free_lists(void) {
     struct list *all[] = {&starts, &heads, &costs, &holds, &distances, &parents, &roster,
-                          &work, &route, &bytes, &written, &output, &run_numbers, &route_numbers};
+                          &work, &route, &bytes, &written, &output, &run_numbers, &route_numbers,
+                          &reversed_starts, &reversed_heads, &reversed_costs, &old_arcs};
     for (size_t i = 0; i < sizeof all / sizeof all[0]; i++) free(all[i]->base), free(all[i]->before);
 }
 
@@ -134,10 +141,20 @@ static void draw_holds(uint32_t n) {
     for (uint32_t v = 0; v < n; v++) words_of(&holds)[v] = most > 0 && one_in(16) ? map.ceiling : below(most + 1);
 }
 
-/* A cost of an arc out of v: with its hold as much as the ceiling, or at most `dearest`. */
+/* A cost of an arc that counts with the hold of v: with it as much as the ceiling, or at most `dearest`. */
 static uint32_t some_cost(uint32_t v, uint32_t dearest) {
     uint32_t left = map.ceiling - words_of(&holds)[v];
     return one_in(16) ? left : below((dearest < left ? dearest : left) + 1);
+}
+
+/* Costs that a run takes, each with the hold of its arc's tail, or a run to a destination, with that of its head. */
+static void draw_costs(bool to) {
+    uint32_t dearest = one_in(4) && map.ceiling > 3 ? 3 : map.ceiling;
+    for (uint32_t v = 0; v < map.n; v++) {
+        for (uint32_t a = words_of(&starts)[v]; a < words_of(&starts)[v + 1]; a++) {
+            words_of(&costs)[a] = some_cost(to ? words_of(&heads)[a] : v, dearest);
+        }
+    }
 }
 
 /* A valid map of n nodes and m arcs in the lists. */
@@ -149,12 +166,9 @@ static void draw_map(uint32_t n, uint32_t m) {
     memset(start, 0, 4 * ((size_t)n + 1));
     for (uint32_t a = 0; a < m; a++) start[below(n) + 1]++;
     for (uint32_t v = 0; v < n; v++) start[v + 1] += start[v];
-    uint32_t dearest = one_in(4) && map.ceiling > 3 ? 3 : map.ceiling;
     draw_holds(n);
     for (uint32_t a = 0; a < m; a++) words_of(&heads)[a] = below(n);
-    for (uint32_t v = 0; v < n; v++) {
-        for (uint32_t a = start[v]; a < start[v + 1]; a++) words_of(&costs)[a] = some_cost(v, dearest);
-    }
+    draw_costs(false);
 }
 
 static void draw_some_map(bool large) {
@@ -177,10 +191,11 @@ static void change_length(struct list *list) {
     }
 }
 
-/* An arc whose cost and its tail's hold are together above every ceiling, though not in 32 bits, where their sum wraps. */
+/* An arc whose cost and its tail's or head's hold are together above every ceiling, though not in 32 bits, where their sum wraps. */
 static void wrap_sum(void) {
     uint32_t a = below((uint32_t)heads.length + 1), v = 0;
     while (v + 1 < starts.length && words_of(&starts)[v + 1] <= a) v++;
+    if (a < heads.length && one_in(2)) v = words_of(&heads)[a];
     if (a >= costs.length || v >= holds.length || map.ceiling == 0) return;
     words_of(&holds)[v] = 1 + below(map.ceiling);
     words_of(&costs)[a] = UINT32_MAX - below(words_of(&holds)[v]);
@@ -231,10 +246,25 @@ static void compare_map(void) {
 
 static struct plain_run run;
 
-static void lend_by_node(struct list *list, uint32_t damage) {
-    size_t n = map.n <= PLAIN_NODES ? map.n : PLAIN_NODES;
-    lend(list, one_in(damage) ? below((uint32_t)n + 1) : n + below(5));
+static void lend_about(struct list *list, size_t needed, uint32_t damage) {
+    lend(list, one_in(damage) ? below((uint32_t)needed + 1) : needed + below(5));
     keep(list);
+}
+
+static size_t lent_nodes(void) {
+    return map.n <= PLAIN_NODES ? map.n : PLAIN_NODES;
+}
+
+static void lend_by_node(struct list *list, uint32_t damage) {
+    lend_about(list, lent_nodes(), damage);
+}
+
+/* The lists that every run fills; gives the work words that it needs. */
+static size_t lend_run(bool two, uint32_t damage) {
+    size_t needed = 4 * lent_nodes() + (two ? 384 : 64);
+    lend_by_node(&distances, damage), lend_by_node(&parents, damage), lend_by_node(&roster, damage);
+    lend(&work, one_in(damage) ? needed - 1 - below((uint32_t)needed) : needed + below(5)), keep(&work);
+    return needed;
 }
 
 /* What document 01 says of a roster, each reached node once by nondecreasing distance, is true of the order scanned. */
@@ -251,21 +281,39 @@ static void expect_roster(void) {
 }
 
 /* Of a small map: each distance is the least cost of a route, by what a route costs. */
-static void expect_cheapest(void) {
+static void expect_cheapest(bool to) {
     static uint64_t least[PLAIN_NODES];
     if (map.n > 24) return;
-    plain_cheapest(&map, least);
+    if (to) plain_cheapest_to(&map, least);
+    else plain_cheapest(&map, least);
     for (uint32_t v = 0; v < map.n; v++) {
         expect(run.distances[v] == (least[v] == UINT64_MAX ? PLAIN_NONE : least[v]), "plain.h: a distance is not the least cost of a route");
     }
 }
 
-static void call_run(bool two, uint32_t damage) {
+/* The numbers and the lists that every run fills, by what plain.h has planned, or every word as it was. */
+static void compare_run(enum function function, struct plain_fault fault, size_t needed) {
     static const uint32_t zeros[4 * PLAIN_NODES + 384];
+    bool accepted = fault.number == 0;
+    uint64_t expected[ROOSTERNOW_RUN_NUMBERS] = {fault.number, fault.place, 0, 0, 0, 0, 0, 0};
+    if (accepted) {
+        expect_cheapest(function == ONE_LEVEL_TO || function == TWO_LEVEL_TO);
+        expect_roster();
+        expected[2] = run.reached, expected[3] = run.buckets, expected[4] = run.decreases;
+        expected[5] = run.placements, expected[6] = run.looks, expected[7] = run.reads;
+    }
+    told[function][fault.number]++;
+    compare(&run_numbers, expected, ROOSTERNOW_RUN_NUMBERS, names[function]);
+    compare_map();
+    compare(&distances, run.distances, accepted ? map.n : 0, "distances");
+    compare(&parents, run.parents, accepted ? map.n : 0, "parents");
+    compare(&roster, run.roster, accepted ? run.reached : 0, "roster");
+    compare(&work, zeros, accepted ? needed : 0, "work");
+}
+
+static void call_run(bool two, uint32_t damage) {
     uint64_t *numbers = lend_numbers(&run_numbers, ROOSTERNOW_RUN_NUMBERS);
-    size_t n = map.n <= PLAIN_NODES ? map.n : PLAIN_NODES, needed = 4 * n + (two ? 384 : 64);
-    lend_by_node(&distances, damage), lend_by_node(&parents, damage), lend_by_node(&roster, damage);
-    lend(&work, one_in(damage) ? needed - 1 - below((uint32_t)needed) : needed + below(5)), keep(&work);
+    size_t needed = lend_run(two, damage);
     if (two) {
         roosternow_two_level(map.n, map.ceiling, map.source, segments, words_or_null(&starts), starts.length, words_or_null(&heads),
                              heads.length, words_or_null(&costs), costs.length, words_or_null(&holds), holds.length,
@@ -278,23 +326,93 @@ static void call_run(bool two, uint32_t damage) {
                              words_or_null(&work), work.length, numbers);
     }
     size_t lent[4] = {distances.length, parents.length, roster.length, work.length};
-    struct plain_fault fault = plain_run_check(&map, two, segments, lent);
-    uint64_t expected[ROOSTERNOW_RUN_NUMBERS] = {fault.number, fault.place, 0, 0, 0, 0, 0, 0};
-    bool accepted = fault.number == 0;
-    if (accepted) {
-        expect(plain_plan(&map, two, segments, &run), "plain.h: the smallest node is not in the lowest bucket");
-        expect_cheapest();
-        expect_roster();
-        expected[2] = run.reached, expected[3] = run.buckets, expected[4] = run.decreases;
-        expected[5] = run.placements, expected[6] = run.looks, expected[7] = run.reads;
+    struct plain_fault fault = plain_run_check(&map, false, two, segments, lent);
+    if (fault.number == 0) expect(plain_plan(&map, two, segments, &run), "plain.h: the smallest node is not in the lowest bucket");
+    compare_run(two ? TWO_LEVEL : ONE_LEVEL, fault, needed);
+}
+
+/* ---- runs to a destination, which is the map's source */
+
+static struct plain_reversed reversed;
+
+static void lend_working(uint32_t damage) {
+    lend_about(&reversed_starts, lent_nodes() + 1, damage), lend_about(&reversed_heads, heads.length, damage);
+    lend_about(&reversed_costs, heads.length, damage), lend_about(&old_arcs, heads.length, damage);
+}
+
+static void plan_to(bool two) {
+    expect(plain_plan_to(&map, two, segments, &reversed, &run), "plain.h: the smallest node is not in the lowest bucket");
+    for (uint32_t v = 0; v < map.n; v++) {
+        if (run.distances[v] == PLAIN_NONE) expect(run.parents[v] == PLAIN_NONE, "plain.h: a parent without a distance");
+        else expect(plain_leads_to(&map, run.parents, v, run.distances[v]), "plain.h: parents do not lead to the destination for the distance");
     }
-    told[two ? TWO_LEVEL : ONE_LEVEL][fault.number]++;
-    compare(&run_numbers, expected, ROOSTERNOW_RUN_NUMBERS, two ? "two_level: numbers" : "one_level: numbers");
-    compare_map();
-    compare(&distances, run.distances, accepted ? map.n : 0, "distances");
-    compare(&parents, run.parents, accepted ? map.n : 0, "parents");
-    compare(&roster, run.roster, accepted ? run.reached : 0, "roster");
-    compare(&work, zeros, accepted ? needed : 0, "work");
+    expect(run.parents[map.source] == PLAIN_NONE, "plain.h: the destination has a parent");
+}
+
+/* The reversed map, or every word as it was. */
+static void compare_working(bool accepted) {
+    size_t m = accepted ? heads.length : 0;
+    compare(&reversed_starts, reversed.starts, accepted ? (size_t)map.n + 1 : 0, "reversed starts");
+    compare(&reversed_heads, reversed.heads, m, "reversed heads"), compare(&reversed_costs, reversed.costs, m, "reversed costs");
+    compare(&old_arcs, reversed.old, m, "old arcs");
+}
+
+/* A run takes the working lists as its map, and gives the same; its parents are places of the old arcs. */
+static void expect_run_of_working(bool two) {
+    static uint32_t own[3 * PLAIN_NODES + 4 * PLAIN_NODES + 384];
+    uint32_t n = map.n, *found = own + n;
+    size_t m = heads.length, needed = 4 * (size_t)n + (two ? 384 : 64);
+    uint64_t numbers[ROOSTERNOW_RUN_NUMBERS];
+    if (two) {
+        roosternow_two_level(n, map.ceiling, map.source, segments, words_of(&reversed_starts), (size_t)n + 1, words_of(&reversed_heads), m,
+                             words_of(&reversed_costs), m, map.holds, n, own, n, found, n, own + 2 * n, n, own + 3 * n, needed, numbers);
+    } else {
+        roosternow_one_level(n, map.ceiling, map.source, words_of(&reversed_starts), (size_t)n + 1, words_of(&reversed_heads), m,
+                             words_of(&reversed_costs), m, map.holds, n, own, n, found, n, own + 2 * n, n, own + 3 * n, needed, numbers);
+    }
+    for (uint32_t v = 0; v < n; v++) found[v] = found[v] == PLAIN_NONE ? PLAIN_NONE : words_of(&old_arcs)[found[v]];
+    expect(memcmp(numbers, bytes_of(&run_numbers), sizeof numbers) == 0, "a run of the working lists: numbers");
+    expect(memcmp(own, run.distances, 4 * (size_t)n) == 0, "a run of the working lists: distances");
+    expect(memcmp(found, run.parents, 4 * (size_t)n) == 0, "a run of the working lists: parents");
+    expect(memcmp(own + 2 * n, run.roster, 4 * run.reached) == 0, "a run of the working lists: roster");
+}
+
+/* Which list is too short, and which maps are taken either by a run or by one to a destination: 8 is by another hold. */
+static void tell_to(enum function function, struct plain_fault fault) {
+    uint64_t by_a_run = plain_map_check(&map, false).number, here = plain_map_check(&map, true).number;
+    if (fault.number == 10) told_places[function][fault.place]++;
+    taken_here[function] += here == 0 && by_a_run == 8;
+    taken_by_a_run[function] += here == 8 && by_a_run == 0;
+}
+
+static void call_run_to(bool two, uint32_t damage) {
+    enum function function = two ? TWO_LEVEL_TO : ONE_LEVEL_TO;
+    uint64_t *numbers = lend_numbers(&run_numbers, ROOSTERNOW_RUN_NUMBERS);
+    size_t needed = lend_run(two, damage);
+    lend_working(damage);
+    if (two) {
+        roosternow_two_level_to(map.n, map.ceiling, map.source, segments, words_or_null(&starts), starts.length, words_or_null(&heads),
+                                heads.length, words_or_null(&costs), costs.length, words_or_null(&holds), holds.length,
+                                words_or_null(&distances), distances.length, words_or_null(&parents), parents.length, words_or_null(&roster),
+                                roster.length, words_or_null(&work), work.length, words_or_null(&reversed_starts), reversed_starts.length,
+                                words_or_null(&reversed_heads), reversed_heads.length, words_or_null(&reversed_costs),
+                                reversed_costs.length, words_or_null(&old_arcs), old_arcs.length, numbers);
+    } else {
+        roosternow_one_level_to(map.n, map.ceiling, map.source, words_or_null(&starts), starts.length, words_or_null(&heads), heads.length,
+                                words_or_null(&costs), costs.length, words_or_null(&holds), holds.length, words_or_null(&distances),
+                                distances.length, words_or_null(&parents), parents.length, words_or_null(&roster), roster.length,
+                                words_or_null(&work), work.length, words_or_null(&reversed_starts), reversed_starts.length,
+                                words_or_null(&reversed_heads), reversed_heads.length, words_or_null(&reversed_costs),
+                                reversed_costs.length, words_or_null(&old_arcs), old_arcs.length, numbers);
+    }
+    size_t lent[LISTS_TO] = {distances.length,       parents.length,        roster.length,         work.length,
+                             reversed_starts.length, reversed_heads.length, reversed_costs.length, old_arcs.length};
+    struct plain_fault fault = plain_run_check(&map, true, two, segments, lent);
+    if (fault.number == 0) plan_to(two);
+    compare_run(function, fault, needed);
+    compare_working(fault.number == 0);
+    if (fault.number == 0) expect_run_of_working(two);
+    tell_to(function, fault);
 }
 
 /* ---- routes */
@@ -307,7 +425,7 @@ static void call_route(uint32_t damage) {
     if (one_in(damage)) change_word(&parents, (uint32_t)heads.length + 1);
     for (size_t i = 0; one_in(damage) && i < parents.length; i++) change_word(&parents, (uint32_t)heads.length + 1);
     keep(&parents);
-    size_t n = map.n <= PLAIN_NODES ? map.n : PLAIN_NODES;
+    size_t n = lent_nodes();
     lend(&route, one_in(4) ? below((uint32_t)n + 3) : n), keep(&route);
     roosternow_route(map.n, map.source, words_or_null(&starts), starts.length, words_or_null(&heads), heads.length, words_or_null(&parents),
                      parents.length, destination, words_or_null(&route), route.length, numbers);
@@ -389,7 +507,7 @@ static bool is_runnable(void) {
     static const size_t enough[4] = {PLAIN_NODES, PLAIN_NODES, PLAIN_NODES, 4 * PLAIN_NODES + 384};
     struct plain_map read = {file.n, file.ceiling, file.source, file.starts, file.heads, file.costs, file.holds,
                              (size_t)file.n + 1, file.m, file.m, file.n};
-    return plain_run_check(&read, false, 0, enough).number == 0 && plain_run_check(&read, true, file.K, enough).number == 0;
+    return plain_run_check(&read, false, false, 0, enough).number == 0 && plain_run_check(&read, false, true, file.K, enough).number == 0;
 }
 
 /* What a planning file was told: of the refusals 8, those for a sum are counted apart, which come behind every line. */
@@ -712,12 +830,23 @@ static void call_from_threads(void) {
 
 /* ---- all */
 
+/* Each of the eight lists has to be the one too short, and 8 to tell a run and one to a destination apart, both ways. */
+static void report_to(int function, uint64_t inputs) {
+    printf(" 10 by list:");
+    for (int list = 0; list < LISTS_TO; list++) {
+        printf("%s%" PRIu64, list ? "," : "", told_places[function][list]);
+        expect(inputs < 100000 || told_places[function][list], "no refusal for a list that is too short");
+    }
+    printf(" taken here, by a run 8:%" PRIu64 " taken by a run, here 8:%" PRIu64, taken_here[function], taken_by_a_run[function]);
+    expect(inputs < 100000 || (taken_here[function] && taken_by_a_run[function]), "8 tells no run and run to a destination apart");
+}
+
 /* Every refusal that a function can make has to be seen, as rows of the documents' table. */
 static void report(uint64_t inputs) {
-    static const uint32_t possible[FUNCTIONS] = {0x1005FF, 0x1007FF, 0x3C4FB, 0x101F9F, 0xC1597, 0x1007FF, 0x103F9F};
+    static const uint32_t possible[FUNCTIONS] = {0x1005FF, 0x1007FF, 0x1005FF, 0x1007FF, 0x3C4FB, 0x101F9F, 0xC1597, 0x1007FF, 0x103F9F};
     for (int function = 0; function < FUNCTIONS; function++) {
         uint64_t calls = 0;
-        printf("%-11s", names[function]);
+        printf("%-12s", names[function]);
         for (int number = 0; number < REFUSALS; number++) {
             calls += told[function][number];
             if (told[function][number]) printf(" %d:%" PRIu64, number, told[function][number]);
@@ -726,6 +855,7 @@ static void report(uint64_t inputs) {
         }
         if (told_held[function]) printf(" with holds:%" PRIu64, told_held[function]);
         if (told_sums[function]) printf(" 8 for a sum:%" PRIu64, told_sums[function]);
+        if (function == ONE_LEVEL_TO || function == TWO_LEVEL_TO) report_to(function, inputs);
         printf(" calls:%" PRIu64 "\n", calls);
         expect(calls >= inputs, "too few calls");
         bool planning = inputs >= 100000 && (function == READ || function == ANSWER);
@@ -763,6 +893,12 @@ static void call_all(bool large) {
     call_run(true, large ? 1000000 : 12);
     call_route(6);
     write_map();
+    draw_some_map(large);
+    if (!one_in(4)) draw_costs(true);
+    while (!large && one_in(3)) damage_map();
+    settle_map();
+    call_run_to(false, large ? 1000000 : 24);
+    call_run_to(true, large ? 1000000 : 24);
     draw_some_map(large);
     while (!large && one_in(4)) damage_map();
     draw_file(2);

@@ -11,6 +11,7 @@ enum { NODES = 4096, STACK = 2 << 20, MARK = 0xa5, FILE_NODES = 512, FILE_ARCS =
 
 static uint32_t starts[NODES + 1], heads[NODES], costs[NODES], holds[NODES];
 static uint32_t distances[NODES], parents[NODES], roster[NODES], work[ROOSTERNOW_WORK_TWO_LEVEL(NODES)], route[NODES];
+static uint32_t reversed_starts[NODES + 1], reversed_heads[NODES], reversed_costs[NODES], old_arcs[NODES];
 static uint64_t numbers[ROOSTERNOW_RUN_NUMBERS];
 static uint8_t file[65536], output[ROOSTERNOW_ANSWER_BYTES], written[ROOSTERNOW_PLAN_BYTES(NODES, NODES)];
 static size_t file_length;
@@ -27,6 +28,22 @@ __attribute__((noinline)) static void *call_two_level(void *unused) {
     frame = (uintptr_t)__builtin_frame_address(0);
     roosternow_two_level(NODES, 1048575, 0, 64, starts, NODES + 1, heads, NODES - 1, costs, NODES - 1, holds, NODES, distances, NODES,
                          parents, NODES, roster, NODES, work, ROOSTERNOW_WORK_TWO_LEVEL(NODES), numbers);
+    return unused;
+}
+
+__attribute__((noinline)) static void *call_one_level_to(void *unused) {
+    frame = (uintptr_t)__builtin_frame_address(0);
+    roosternow_one_level_to(NODES, 1048575, NODES - 1, starts, NODES + 1, heads, NODES - 1, costs, NODES - 1, holds, NODES, distances, NODES,
+                            parents, NODES, roster, NODES, work, ROOSTERNOW_WORK_TWO_LEVEL(NODES), reversed_starts, NODES + 1, reversed_heads,
+                            NODES, reversed_costs, NODES, old_arcs, NODES, numbers);
+    return unused;
+}
+
+__attribute__((noinline)) static void *call_two_level_to(void *unused) {
+    frame = (uintptr_t)__builtin_frame_address(0);
+    roosternow_two_level_to(NODES, 1048575, NODES - 1, 64, starts, NODES + 1, heads, NODES - 1, costs, NODES - 1, holds, NODES, distances,
+                            NODES, parents, NODES, roster, NODES, work, ROOSTERNOW_WORK_TWO_LEVEL(NODES), reversed_starts, NODES + 1,
+                            reversed_heads, NODES, reversed_costs, NODES, old_arcs, NODES, numbers);
     return unused;
 }
 
@@ -89,6 +106,12 @@ static void lay_chain(void) {
     }
 }
 
+/* The same at the heads, for runs to the chain's last node. */
+static void hold_at_heads(void) {
+    holds[0] = 0;
+    for (uint32_t a = 0; a + 1 < NODES; a++) holds[heads[a]] = 1048575 - costs[a];
+}
+
 /* Four arcs to a node, the last the dearest; its hold leaves nothing of the ceiling for that one. */
 static void write_file(void) {
     file_length = (size_t)sprintf((char *)file, "%d,%d,1048575,0,64,1\n", FILE_NODES, FILE_ARCS);
@@ -118,6 +141,9 @@ int main(void) {
     print("roosternow_two_level", call_two_level);
     print("roosternow_route", call_route);
     print("roosternow_write", call_write);
+    hold_at_heads();
+    print("roosternow_one_level_to", call_one_level_to);
+    print("roosternow_two_level_to", call_two_level_to);
     write_file();
     print("roosternow_read", call_read);
     print("roosternow_answer", call_answer);

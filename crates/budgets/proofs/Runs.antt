@@ -1,4 +1,5 @@
--- The heap operations that an accepted run gives back, and their bound; no accepted run exceeds the bounds of its size. Assumes nothing.
+-- The heap operations that an accepted run gives back, and their bound; no accepted run, to a destination neither, exceeds the bounds of its
+-- size. Assumes nothing.
 use Prim.Native.Nat.{ℕ, _+_, _-_, _*_, _≤_}
 use native.Mathlib.Omega.{arith}
 use native.Mathlib.Nat.{mul-le-mul, le-refl}
@@ -14,7 +15,10 @@ use Rattle.theory.specs.Runs.{Inputs, Levels, one, two, heapBuckets, removalLoo
 use Rattle.theory.specs.Heap.{Heap, placements}
 use Rattle.theory.specs.Demands.{operations, OperationsBounded, BoundedCounts}
 use Rattle.checks.specs.Checks.{firstFault, runChecks}
-use Rattle.runs.specs.Promise.{Lent, lengthsOf, Ran, Promised}
+use Rattle.runs.specs.Promise.{Lent, lengthsOf, runNumbers, Ran, Promised}
+use Rattle.reversal.specs.Reversed.{reversed}
+use Rattle.destination_checks.specs.Destination.{checksTo}
+use Rattle.destination.specs.Promise.{LentTo, lengthsTo, RanTo, PromisedTo}
 use Rattle.budgets.specs.Budget.{mostReached, mostDecreases, mostPlacements, mostLooks, mostReads, mostOperations, operationsOf, Within}
 use Rattle.budgets.proofs.Sizing.{one-some, two-some}
 
@@ -67,6 +71,25 @@ pub two-level-most-operations : (n m B K : ℕ) → mostOperations n m B (B + K)
 two-level-most-operations n m B K =
     let e : 4 * B + (B + K) - 4 ≡ 5 * B + K - 4 = omega arith in ap (λ (k : ℕ). mostReached n m * k + 3 * m + 3) e
 
+-- The numbers of the steps h, as an accepted run gives them back.
+module _ {M : Map} {source B L : ℕ} {h : Heap} {numbers : Numbers} (counts : BoundedCounts M source B L h) (some : 1 ≤ B)
+    (told : numbers ≡ runNumbers Passed B h) where
+  told-operations : operationsOf (numbers .counts) ≡ operations h
+  told-operations = ap (λ (n : Numbers). operationsOf (n .counts)) told
+
+  told-bounded : OperationsBounded (operationsOf (numbers .counts)) (numbers .reached) (arcs M) B L
+  told-bounded = rw told (counts .operated)
+
+  told-within : Within (M .nodes) (arcs M) B L numbers
+  told-within = record {
+    buckets = ap (λ (n : Numbers). n .buckets) told;
+    decreases = omega (arith, ap (λ (n : Numbers). n .counts .decreases) told, decreases-within counts some);
+    placements = omega (arith, ap (λ (n : Numbers). n .counts .placements) told, placements-within counts some);
+    looks = omega (arith, ap (λ (n : Numbers). n .counts .looks) told, looks-within counts some);
+    reads = omega (arith, ap (λ (n : Numbers). n .counts .reads) told, reads-within counts some);
+    operations = omega (arith, told-operations, operations-within counts some);
+  }
+
 -- Of a run that has passed its checks.
 module _ (L : Levels) (I : Inputs) (l l′ : Lent) {answer : RunAnswer}
     (passed : firstFault (runChecks L I (lengthsOf l)) ≡ Passed) (promised : Promised L I answer l l′) where
@@ -75,23 +98,32 @@ module _ (L : Levels) (I : Inputs) (l l′ : Lent) {answer : RunAnswer}
 
   -- The heap operations given back are those of the steps.
   pub operations-given : operationsOf (numbersOf answer .counts) ≡ operations (stepsOf L I)
-  operations-given = ap (λ (n : Numbers). operationsOf (n .counts)) (accepted .numbers)
+  operations-given = told-operations (accepted .demanded .counts) (buckets-some L (I .ceiling)) (accepted .numbers)
 
   -- The bound of a run by the nodes that it has reached: r (4 B + L) + 3 m - 4 r + 3.
   pub run-operations : OperationsBounded (operationsOf (numbersOf answer .counts)) (numbersOf answer .reached) (arcs (I .map))
       (heapBuckets L (I .ceiling)) (removalLooks L (I .ceiling))
-  run-operations = rw (accepted .numbers) (accepted .demanded .counts .operated)
+  run-operations = told-bounded (accepted .demanded .counts) (buckets-some L (I .ceiling)) (accepted .numbers)
 
   pub run-within : Within (I .map .nodes) (arcs (I .map)) (heapBuckets L (I .ceiling)) (removalLooks L (I .ceiling)) (numbersOf answer)
-  run-within =
-      let counts = accepted .demanded .counts in
-      let some = buckets-some L (I .ceiling) in
-      let told = accepted .numbers in
-      record {
-        buckets = ap (λ (n : Numbers). n .buckets) told;
-        decreases = omega (arith, ap (λ (n : Numbers). n .counts .decreases) told, decreases-within counts some);
-        placements = omega (arith, ap (λ (n : Numbers). n .counts .placements) told, placements-within counts some);
-        looks = omega (arith, ap (λ (n : Numbers). n .counts .looks) told, looks-within counts some);
-        reads = omega (arith, ap (λ (n : Numbers). n .counts .reads) told, reads-within counts some);
-        operations = omega (arith, operations-given, operations-within counts some);
-      }
+  run-within = told-within (accepted .demanded .counts) (buckets-some L (I .ceiling)) (accepted .numbers)
+
+-- Of a run to a destination that has passed its checks: the same bounds, with the map's own n and m (document 02, paper 7).
+module _ (L : Levels) (I : Inputs) (l l′ : LentTo) {answer : RunAnswer}
+    (passed : firstFault (checksTo L I (lengthsTo l)) ≡ Passed) (promised : PromisedTo L I answer l l′) where
+  accepted-to : RanTo L I Passed answer l l′
+  accepted-to = subst (λ (k : Check). RanTo L I k answer l l′) passed promised
+
+  pub run-to-operations : OperationsBounded (operationsOf (numbersOf answer .counts)) (numbersOf answer .reached) (arcs (I .map))
+      (heapBuckets L (I .ceiling)) (removalLooks L (I .ceiling))
+  run-to-operations =
+      subst (λ (m : ℕ). OperationsBounded (operationsOf (numbersOf answer .counts)) (numbersOf answer .reached) m (heapBuckets L (I .ceiling)) (removalLooks L (I .ceiling)))
+      (accepted-to .demanded .same-arcs)
+      (told-bounded (accepted-to .demanded .counts) (buckets-some L (I .ceiling)) (accepted-to .numbers))
+
+  pub run-to-within : Within (I .map .nodes) (arcs (I .map)) (heapBuckets L (I .ceiling)) (removalLooks L (I .ceiling)) (numbersOf answer)
+  unfolding reversed
+  run-to-within =
+      subst (λ (m : ℕ). Within (I .map .nodes) m (heapBuckets L (I .ceiling)) (removalLooks L (I .ceiling)) (numbersOf answer))
+      (accepted-to .demanded .same-arcs)
+      (told-within (accepted-to .demanded .counts) (buckets-some L (I .ceiling)) (accepted-to .numbers))
