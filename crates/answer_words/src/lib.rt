@@ -1,4 +1,6 @@
 // The numbers of each answer as the words of an array, for callers that take no enum (document 01, "What a call returns").
+#![tactic(auto)]
+
 ghost use Rattle.std.specs.Prelude.{◌≡◌};
 ghost use Rattle.model.specs.Answers.{numbers_of};
 ghost use Rattle.route.specs.Routes.{route_numbers_of};

@@ -3,6 +3,8 @@
 //     words[bits .. bits + (n + 31) / 32)              bit v % 32 of word v / 32 says that node v is in the set
 //     words[summary .. summary + (n + 1023) / 1024)    bit i % 32 of word i / 32 says that word i of the bits is not 0
 // No function touches another word, and each looks at no more than four words of the summary. Callers keep `BitSet` and `In` shut.
+#![tactic(auto)]
+
 ghost use Rattle.std.specs.Prelude.{◌<◌};
 ghost use Rattle.bits.specs.Sets.{BitSet, In, Inhabited, Inserted, Removed, Smallest, Taken};
 

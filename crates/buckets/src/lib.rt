@@ -11,6 +11,8 @@
 // Callers see `Linked`, which they keep shut, and `places`, the list of the place words. The limits are those of `Fits`: at most 511
 // slots, so that a slot's number and 1 fit 9 bits, and 4 * n + 32 + slots below 2^32, so that an index fits a word. Here lists are read;
 // the crate `linking` changes them.
+#![tactic(auto)]
+
 ghost use Rattle.std.specs.Prelude.{◌≤◌, ◌<◌, length};
 ghost use Rattle.buckets.specs.Words.{bucket_count};
 ghost use Rattle.buckets.specs.Links.{Linked};

@@ -1,4 +1,6 @@
 // The program `budget`: a line n,m,C,K on standard input, the most heap operations of both heaps on standard output.
+#![tactic(auto)]
+
 fn main() {
     // A line of four fields takes at most 32 bytes; one byte more shows that something is left over.
     let mut input = [0u8; 64];

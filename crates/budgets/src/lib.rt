@@ -1,4 +1,6 @@
 // From a line n,m,C,K to the most heap operations of both heaps (demand 3).
+#![tactic(auto)]
+
 ghost use Rattle.std.specs.Prelude.{◌≡◌, [], ◌∷◌, ◌++◌, ◌+◌, ◌-◌, ◌*◌, ◌≤◌, ltb, length, drop};
 ghost use Rattle.model.specs.declared.Check.TheVariants.{Passed};
 ghost use Rattle.check_numbers.specs.Numbers.{fault_if};

@@ -1,4 +1,6 @@
 // Numbers 1 to 5, 9 and 10, which look at no word of a list (document 01, "What a call returns").
+#![tactic(auto)]
+
 ghost use Rattle.std.specs.Prelude.{◌≡◌};
 ghost use Rattle.check_numbers.specs.Numbers.{fault_if, nodes_check, ceiling_check, source_check, head_count_check, arc_count_check, start_count_check, segments_check, lent_check};
 

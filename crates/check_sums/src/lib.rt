@@ -1,5 +1,7 @@
 // Number 8: an arc's cost together with its tail's hold above the ceiling (document 02, paper 2). No sum is formed, so none can wrap: a
 // cost is held against what a hold leaves of the ceiling.
+#![tactic(auto)]
+
 ghost use Rattle.std.specs.Prelude.{◌≡◌};
 ghost use Rattle.theory.specs.Maps.{tail_of};
 ghost use Rattle.check_sums.specs.Sums.{sums_check, Summable, Greatest};

@@ -1,4 +1,6 @@
 // The checks of what a call is given, in the order of each entry point (document 01, "What a call returns"; document 02, paper 2).
+#![tactic(auto)]
+
 ghost use Rattle.std.specs.Prelude.{◌≡◌, [], ◌∷◌};
 ghost use Rattle.checks.specs.Checks.{first_fault, lent_checks, map_lists, file_lists, size_checks, lists_checks, map_checks, run_lists, run_checks, lengths_for};
 ghost use Rattle.theory.specs.Runs.{inputs, one, two};

@@ -1,4 +1,6 @@
 // From the bytes of a road file to those of the planning file that `convert` prints (document 02, papers 1 and 5).
+#![tactic(auto)]
+
 ghost use Rattle.std.specs.Prelude.{length};
 ghost use Rattle.checks.specs.Checks.{first_fault};
 ghost use Rattle.fields.specs.Writing.{Writes};

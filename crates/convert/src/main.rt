@@ -1,5 +1,7 @@
 // The program `convert`: a road file on standard input, the ceiling, the source (from 0) and K as arguments, its planning file on standard
 // output (document 02, papers 1 and 5).
+#![tactic(auto)]
+
 use fields::Field;
 use fields::reading::field_at;
 use model::Node;

@@ -1,4 +1,6 @@
 // A planning file and the place in it, kept together, and the lines that are read there (document 01, "Planning file").
+#![tactic(auto)]
+
 ghost use Rattle.std.specs.Prelude.{◌≡◌, ◌≤◌, length, drop};
 ghost use Rattle.cursor.specs.Lines.{line_numbers};
 ghost use Rattle.cursor.specs.Unread.{unread};

@@ -1,5 +1,7 @@
 // Costs to a node, which is paper 7's charger: a run of the reversed map by either heap, whose arcs are told by their old numbers (document 02,
 // paper 7).
+#![tactic(auto)]
+
 ghost use Rattle.model.specs.declared.Check.TheVariants.{Passed};
 ghost use Rattle.theory.specs.Runs.{one, two, inputs};
 ghost use Rattle.destination_checks.specs.Destination.{ReadyTo};

@@ -1,4 +1,6 @@
 // The checks of a run to a destination, in their order (document 02, paper 7). The destination is paper 7's charger.
+#![tactic(auto)]
+
 ghost use Rattle.std.specs.Prelude.{◌≡◌, ℕ, get_or};
 ghost use Rattle.theory.specs.Runs.{inputs, one, two};
 ghost use Rattle.check_sums.specs.Sums.{sums_check};

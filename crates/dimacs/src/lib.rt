@@ -1,4 +1,6 @@
 // The reader of road files in the shortest path format of the 9th DIMACS Challenge (document 02, paper 1).
+#![tactic(auto)]
+
 ghost use Rattle.dimacs.specs.Promise.{DimacsPromised};
 
 use dimacs_checks::ProblemLine;

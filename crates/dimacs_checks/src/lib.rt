@@ -1,4 +1,6 @@
 // The checks of a road file: every line in order, and no word written (document 02, paper 1).
+#![tactic(auto)]
+
 ghost use Rattle.std.specs.Prelude.{◌≡◌, [], ◌∷◌, ◌++◌, ◌≤◌, max, length, drop};
 ghost use Rattle.checks.specs.Checks.{first_fault};
 ghost use Rattle.dimacs_lines.specs.Lines.{road_lines};

@@ -1,4 +1,6 @@
 // The lines of a road file in the shortest path format of the 9th DIMACS Challenge (document 02, paper 1).
+#![tactic(auto)]
+
 ghost use Rattle.std.specs.Prelude.{◌≡◌, ◌+◌, ◌≤◌, length, drop};
 ghost use Rattle.dimacs_lines.specs.Lines.{begins, comment_from, problem_line, road_arc_line, road_line, taken_by};
 

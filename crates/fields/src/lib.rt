@@ -1,4 +1,6 @@
 // Decimal fields and lines of them, in bytes (document 01, "Planning file").
+#![tactic(auto)]
+
 pub mod reading;
 pub mod writing;
 

@@ -1,5 +1,7 @@
 // The lowest bucket and segment that are not empty, and the looks that find them (document 01, "One-level heap", "Two-level heap" and "The
 // tallies").
+#![tactic(auto)]
+
 ghost use Rattle.std.specs.Prelude.{◌≡◌, ◌-◌, ◌<◌, ◌≤◌};
 ghost use Rattle.finding.specs.Finding.{Holds, LowestBucket, InBucketSome, LowestSegment, looks_of};
 

@@ -6,6 +6,8 @@
 //     words[4n + 24 .. 4n + 28) the summary of the bits
 //     words[4n + 32 .. )        the lists' heads and counts
 // Callers keep `Frontier` shut and go by the place words, which the first functions here read.
+#![tactic(auto)]
+
 ghost use Rattle.std.specs.Prelude.{◌≡◌, ◌*◌, ◌%◌, ◌<◌, ◌≤◌, eqb, length, get_or};
 ghost use Rattle.buckets.specs.Words.{places, place_word, place_bucket, place_slot, slot_bucket, Held};
 ghost use Rattle.frontier.specs.Frontier.{Frontier, Placed, Current, FirstCurrent, FirstLeft};

@@ -1,5 +1,7 @@
 // From the bytes of a planning file to the bytes that `routes` prints: for each node that is reached, its number, its distance and the nodes
 // of its route (document 01, "Routes" and "Planning file").
+#![tactic(auto)]
+
 ghost use Rattle.std.specs.Prelude.{◌≡◌, ◌+◌, ◌*◌, ◌≤◌, ◌<◌, length};
 ghost use Rattle.theory.specs.Maps.{none};
 ghost use Rattle.theory.specs.Runs.{one};

@@ -1,5 +1,7 @@
 // A line of a planning file written into just the bytes that it takes, and how many these are (document 01, "Planning file"; document 02,
 // paper 5).
+#![tactic(auto)]
+
 ghost use Rattle.std.specs.Prelude.{◌≡◌, ◌+◌, ◌≤◌, length};
 ghost use Rattle.fields.specs.Fields.{comma, render_line};
 ghost use Rattle.fields.specs.Writing.{Writes};

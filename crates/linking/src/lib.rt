@@ -1,4 +1,6 @@
 // Nodes come into the lists of `buckets` and leave them, with the words laid out as that crate says.
+#![tactic(auto)]
+
 ghost use Rattle.std.specs.Prelude.{◌≡◌, ◌+◌, ◌-◌, ◌*◌, ◌≤◌, ◌<◌, length, get_or};
 ghost use Rattle.buckets.specs.Words.{slot_bucket, place_word, place_bucket, node_or, Held, Free, places, bucket_count, count_at, recount, WordsFit};
 ghost use Rattle.buckets.specs.Links.{Chains, Linked, Relinked, Moved};

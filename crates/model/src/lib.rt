@@ -1,5 +1,7 @@
 // Node numbers and arc numbers, kept apart, and the answers of checks and runs (document 01, "What the planner holds and leaves out" and
 // "What a call returns").
+#![tactic(auto)]
+
 ghost use Rattle.std.specs.Prelude.{◌≡◌};
 ghost use Rattle.model.specs.Answers.{numbers_of, accepted_numbers, refused_numbers};
 

@@ -1,4 +1,6 @@
 // Placements of nodes: insertions and decreases, and the relaxation of an arc that makes them (document 01, "The search" and "The tallies").
+#![tactic(auto)]
+
 ghost use Rattle.std.specs.Prelude.{◌≡◌, true, List, ℕ, get_or};
 ghost use Rattle.buckets.specs.Words.{places};
 ghost use Rattle.theory.specs.Network.{Link};

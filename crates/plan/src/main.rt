@@ -1,4 +1,6 @@
 // The program `plan`: a planning file on standard input, its answer on standard output (document 01, "Planning file").
+#![tactic(auto)]
+
 fn main() {
     // One byte more than the most that is taken, so that a longer input is noticed.
     let mut input = [0u8; 65537];

@@ -1,4 +1,6 @@
 // The checks of a planning file in their order; no word is written here (document 01, "What a call returns"; document 02, paper 2).
+#![tactic(auto)]
+
 ghost use Rattle.std.specs.Prelude.{◌≡◌, ◌++◌, ◌≤◌, length, drop};
 ghost use Rattle.checks.specs.Checks.{first_fault};
 ghost use Rattle.plan_lines.specs.Told.{lines_arcs};

@@ -1,4 +1,6 @@
 // The three kinds of line of a planning file (document 01, "Planning file"; document 02, paper 2).
+#![tactic(auto)]
+
 ghost use Rattle.std.specs.Prelude.{◌≡◌, ◌≤◌, length, drop};
 ghost use Rattle.cursor.specs.Lines.{line_numbers};
 ghost use Rattle.plan_lines.specs.Lines.{arc_line, hold_line, held_header_of, header_line};

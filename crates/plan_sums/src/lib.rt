@@ -1,5 +1,7 @@
 // Number 8 of a planning file with holds: an arc's cost together with its tail's hold above the ceiling (document 02, paper 2). Nothing is
 // written yet, so both are read from the bytes once more. Tails never fall: the place among the holds only moves on.
+#![tactic(auto)]
+
 ghost use Rattle.std.specs.Prelude.{◌≡◌, drop};
 ghost use Rattle.plan_lines.specs.Told.{lines_arcs, lines_holds};
 ghost use Rattle.plan_sums.specs.Sums.{arc_sums_check, SumLines};

@@ -1,5 +1,7 @@
 // The text of a planning file and its length, from the numbers of line 1, the lists of a map and the holds that have lines (document 02,
 // paper 5).
+#![tactic(auto)]
+
 mod lengths;
 mod lines;
 

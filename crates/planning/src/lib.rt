@@ -1,4 +1,6 @@
 // From the bytes of a planning file to the bytes that `plan` prints (document 01, "Planning file").
+#![tactic(auto)]
+
 ghost use Rattle.std.specs.Prelude.{◌≡◌, ◌+◌, ◌*◌, ◌≤◌, length};
 ghost use Rattle.model.specs.Answers.{numbers_of};
 ghost use Rattle.fields.specs.Writing.{Writes};

@@ -1,5 +1,7 @@
 // The powers of the number of segments K, row by row (document 01, "Two-level heap (000, section 3)"), stored without the zeros behind each row
 // (document 02, paper 4).
+#![tactic(auto)]
+
 ghost use Rattle.std.specs.Prelude.{◌≡◌, ◌≤◌, T, length};
 ghost use Rattle.powers.specs.Powers.{power_row};
 ghost use Rattle.powers.specs.Stored.{padded, non_zero, rows_stand};

@@ -1,4 +1,6 @@
 // The reader of planning files (document 01, "Planning file" and "What a call returns"; document 02, paper 2).
+#![tactic(auto)]
+
 ghost use Rattle.std.specs.Prelude.{◌≤◌, length};
 ghost use Rattle.plan_lines.specs.declared.HeaderLine.TheVariants.{HeaderRead};
 ghost use Rattle.reader.specs.Promise.{HeaderAnswered, PlanPromised};

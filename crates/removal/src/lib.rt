@@ -1,5 +1,7 @@
 // The removal of the node to scan: the node of smallest key, and of smallest number among equals, with the new bounds and the shifts
 // (document 01, "One-level heap", "Two-level heap" and "The tallies").
+#![tactic(auto)]
+
 ghost use Rattle.std.specs.Prelude.{◌≡◌, ◌<◌};
 ghost use Rattle.removal.specs.Removing.{SomeRests, Removes};
 

@@ -1,4 +1,6 @@
 // What the program `plan` prints, written into a lent buffer (document 01, "Planning file").
+#![tactic(auto)]
+
 ghost use Rattle.std.specs.Prelude.{◌+◌, ◌*◌, ◌≤◌, [], ◌∷◌, length};
 ghost use Rattle.fields.specs.Fields.{comma, render_line};
 ghost use Rattle.fields.specs.Writing.{Writes};

@@ -1,5 +1,7 @@
 // The interface for C (include/roosternow.h): each function hands numbers and lists to an entry point, and writes what it answers to a
 // lent array of fixed size (document 01, "What a call returns").
+#![tactic(auto)]
+
 mod arriving;
 mod text;
 mod writing;

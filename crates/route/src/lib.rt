@@ -1,4 +1,6 @@
 // The route to a destination, from a parent table (document 01, "Routes" and "What a call returns").
+#![tactic(auto)]
+
 ghost use Rattle.std.specs.Prelude.{◌≡◌, ◌≤◌, [], ◌∷◌, length};
 ghost use Rattle.checks.specs.Checks.{first_fault};
 ghost use Rattle.route.specs.Routes.{table_checks, destination_check, parent_check, route_numbers_of, RoutePromised, walked_numbers};

@@ -1,5 +1,7 @@
 // The program `routes`: a planning file on standard input, the routes of its nodes on standard output (document 01, "Routes" and "Planning
 // file").
+#![tactic(auto)]
+
 fn main() {
     // One byte more than the most that is taken, so that a longer input is noticed.
     let mut input = [0u8; 65537];

@@ -1,5 +1,7 @@
 // The two runs that callers use: each makes its own checks, plans with the shared core, and leaves its work words at 0 (document 01,
 // "What the planner holds and leaves out" and "What a call returns").
+#![tactic(auto)]
+
 ghost use Rattle.std.specs.Prelude.{◌≡◌, ◌+◌, ◌<◌};
 ghost use Rattle.model.specs.declared.Check.TheVariants.{Passed};
 ghost use Rattle.theory.specs.Maps.{map_of};

@@ -1,4 +1,6 @@
 // The start of a run and the scan of a node (document 01, "The search").
+#![tactic(auto)]
+
 ghost use Rattle.std.specs.Prelude.{◌≡◌, List, ℕ, ◌<◌, length, replicate};
 ghost use Rattle.theory.specs.Maps.{map_of};
 ghost use Rattle.theory.specs.Network.{tail_hold};

@@ -1,5 +1,7 @@
 // The new bounds of a removal, and the shifts of the nodes of the segment that it uses (document 01, "One-level heap", "Two-level heap" and
 // "The tallies").
+#![tactic(auto)]
+
 ghost use Rattle.std.specs.Prelude.{◌≡◌};
 ghost use Rattle.shifting.specs.Renewing.{Renews, renewed};
 ghost use Rattle.shifting.specs.Moving.{Settles, Settled, Distributes, Distributed};

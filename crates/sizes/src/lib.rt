@@ -1,4 +1,6 @@
 // The number of buckets of each heap, and their sizes, in a list that `bounds` reads (document 01, "One-level heap" and "Two-level heap").
+#![tactic(auto)]
+
 ghost use Rattle.std.specs.Prelude.{◌≡◌, ◌+◌, ◌≤◌};
 ghost use Rattle.theory.specs.Shape.{ceil_log, one_level_buckets, two_level_buckets};
 ghost use Rattle.sizes.specs.Sizes.{one_level_sizes, two_level_sizes};

@@ -1,4 +1,6 @@
 // The numbers of a run: how its work words are laid out, its tallies, and what changes from step to step.
+#![tactic(auto)]
+
 ghost use Rattle.std.specs.Prelude.{◌≡◌, ◌<◌, ◌+◌};
 ghost use Rattle.state.specs.Tallies.{Event, insertion, decrease, after_event};
 

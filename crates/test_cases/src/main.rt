@@ -1,6 +1,8 @@
 // The planner on fixed cases, which stand in standard input, a row for each step (document 01, "What a call returns" and "Edges", and
 // document 02, papers 2, 3 and 6). Standard output repeats every row and has behind it what the row gave. The head of crates/test_cases/stdin says
 // what each row is.
+#![tactic(auto)]
+
 use planning_file::File;
 use test_rows::map::Map;
 use test_rows::{bytes, map, rows};

@@ -1,4 +1,6 @@
 // Files damaged: a byte changed, put in or taken out, a line dropped, doubled or swapped, the end cut.
+#![tactic(auto)]
+
 use test_generated::random;
 use test_reference_files::printing::Text;
 use test_reference_files::{printing, reading};

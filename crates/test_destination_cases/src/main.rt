@@ -1,5 +1,7 @@
 // Runs to a destination on fixed cases, which stand in standard input, a row for each step (document 02, paper 7). Standard output repeats
 // every row and has behind it what the row gave. The head of crates/test_destination_cases/stdin says what each row is.
+#![tactic(auto)]
+
 use calls::Lent;
 use test_rows::map::Map;
 use test_rows::{map, rows};

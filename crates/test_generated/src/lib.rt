@@ -1,5 +1,7 @@
 // What the trials share: generated maps and their holds, cases at the edge of every refusal, lists full of junk, and tallies of what was
 // found.
+#![tactic(auto)]
+
 pub mod case;
 pub mod edges;
 pub mod holds;

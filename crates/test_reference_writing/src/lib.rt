@@ -1,4 +1,6 @@
 // A plain writer of planning files (document 02, paper 5). It asks for a map that no check turns down, and writes nothing past the file's end.
+#![tactic(auto)]
+
 use test_reference_map::case::Case;
 use test_reference_map::map;
 use test_reference_map::map::Lists;

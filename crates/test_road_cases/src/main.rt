@@ -1,5 +1,7 @@
 // The reader of road files on fixed cases, which stand in standard input, a row for each step (document 02, paper 1). Standard output
 // repeats every row and has behind it what the row gave. The head of crates/test_road_cases/stdin says what each row is.
+#![tactic(auto)]
+
 use road_file::File;
 use test_rows::{bytes, rows};
 

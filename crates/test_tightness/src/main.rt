@@ -2,6 +2,8 @@
 // that are all decreases, removals that look at every bucket or at every segment. No node has a hold, which would come in as a cost does
 // (document 02, paper 2). A line for each map and heap: r, m, B and the segments looked at, then for decreases, placements, looks and reads
 // the count, its bound, and how many thousandths of the bound it is.
+#![tactic(auto)]
+
 use model::{Counts, Node, RunAnswer};
 
 // A difference that is not below 0.

@@ -2,6 +2,8 @@
 // holds by every rule in turn, and at the edge of every refusal. Each family gives a line: its name, its maps, and the differences found in
 // the answers and in all eight lists. Behind them each number has a line: the runs for which it is the one to return, and the differences in
 // them.
+#![tactic(auto)]
+
 use families::{EDGES, FEW_HEADS, LARGE, SEGMENTS};
 use test_generated::{maps, tallies};
 use test_reference_map::nodes::Table;

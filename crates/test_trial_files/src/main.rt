@@ -2,6 +2,8 @@
 // 3): files as they are to be, files at the edge of every refusal, and damaged files, of five fields, then with holds. Each family gives a
 // line: its name, its files, and the differences found. Behind the families of five fields and behind those with holds each number that a
 // text tells has a line: the files for which it is the one to tell, and the differences in them.
+#![tactic(auto)]
+
 use test_generated::tallies;
 use test_reference_map::nodes::Table;
 use test_reference_map::words;

@@ -3,6 +3,8 @@
 // maps gives another for its maps with holds, by seven rules in turn: any holds, what the arcs leave, the most at all nodes but the source
 // or at the source, then any with the list's length, a hold or a sum at an edge. Then each number that a call returns has a line: the cases
 // at an edge in which it is the one to return, and the differences in them.
+#![tactic(auto)]
+
 use test_generated::tallies::Found;
 use test_generated::{holds, tallies};
 use test_reference_map::nodes::Table;

@@ -2,6 +2,8 @@
 // or with numbers at the edge of every refusal. Each family gives a line: its name, its files, and the differences found. Behind it each number
 // has a line: the files for which it is the one to return, and the differences in them. tests/cases/expected_road_trial makes the same files
 // and works out the same numbers, apart from the planner and from the reference.
+#![tactic(auto)]
+
 use test_generated::tallies;
 use test_reference_map::words;
 

@@ -2,6 +2,8 @@
 // 02, paper 5): of generated maps, without holds and with, and of maps at the edge of every refusal. Each map is written into a buffer with
 // just enough bytes, into one with a byte less and into one with more. Each family gives a line: its name, its maps, and the differences
 // found. Behind them each number has a line: the writes for which it is the one to return, and the differences in them.
+#![tactic(auto)]
+
 use families::{EDGES, LARGE, WITH_HOLDS};
 use test_generated::{maps, tallies};
 use test_reference_map::nodes::Table;

@@ -1,5 +1,7 @@
 // The writer of planning files on fixed cases, which stand in standard input, a row for each step (document 02, paper 5). Standard output
 // repeats every row and has behind it what the row gave. The head of crates/test_write_cases/stdin says what each row is.
+#![tactic(auto)]
+
 use test_rows::map::Map;
 use test_rows::{bytes, map, rows};
 

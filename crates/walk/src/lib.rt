@@ -1,4 +1,6 @@
 // The walk from a node back to the source by a parent table (document 01, "Routes").
+#![tactic(auto)]
+
 ghost use Rattle.std.specs.Prelude.{◌≡◌, [], ◌∷◌, length};
 ghost use Rattle.theory.specs.Maps.{LeavesBy};
 ghost use Rattle.walk.specs.Walk.{leads_to, Nodes, walk_back};

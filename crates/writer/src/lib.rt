@@ -1,4 +1,6 @@
 // The writer of planning files (document 02, paper 5).
+#![tactic(auto)]
+
 ghost use Rattle.std.specs.Prelude.{◌≡◌};
 ghost use Rattle.theory.specs.Runs.{inputs};
 ghost use Rattle.plan_text.specs.Rendering.{all_zero};

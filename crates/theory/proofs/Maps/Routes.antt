@@ -77,7 +77,7 @@ unfolding network
 source_path {M} {source} r = let q = route_path source 0 r Path.here in (q.0, q.1, omega (arith, q.2, source_hold M source))
 
 -- What the parents spell.
-pub spelled_route : {M : Map} {source v : ℕ} {parents route : List ℕ} → SpelledRoute M source parents v route → Route M source route v
+pub spelled_route : {M : Map} {source : ℕ} {parents : List ℕ} {v : ℕ} {route : List ℕ} → SpelledRoute M source parents v route → Route M source route v
 spelled_route SpelledRoute.here = Route.here
 spelled_route (SpelledRoute.on r a h e n) = route_snoc a (spelled_route r) h
 
@@ -100,21 +100,22 @@ unfolding end_hold
 spelled_end {M} {source} SpelledRoute.here = sym (source_hold M source)
 spelled_end {M} {source} (SpelledRoute.on {route} r a h e n) = end_snoc M route a ∙ sym (other_hold M source (head_of M a) (λ q. n (sym q)))
 
-pub spelled_path_route : {M : Map} {source v c : ℕ} {parents : List ℕ} → SpelledPath (network M source) parents v c
+-- A spelled route and one arc more.
+spelled_on : {M : Map} {source : ℕ} {parents : List ℕ} {t : ℕ} (route : List ℕ) (a d k : ℕ) → SpelledRoute M source parents t route → route_cost M route ≡ d
+    → LeavesArc M t a → parent_of parents (head_of M a) ≡ a → (source ≡ head_of M a → ⊥) → k ≡ arc_cost M source t a
+    → (longer : List ℕ) × SpelledRoute M source parents (head_of M a) longer × (route_cost M longer ≡ d + k)
+spelled_on {M} route a d k r q h e n g = (route ++ (a ∷ []), SpelledRoute.on r a h e n, omega (arith, cost_snoc M route a, q, spelled_end r, g))
+
+pub spelled_path_route : {M : Map} {source : ℕ} {parents : List ℕ} {v c : ℕ} → SpelledPath (network M source) parents v c
     → (route : List ℕ) × SpelledRoute M source parents v route × (route_cost M route ≡ c)
 unfolding network route_cost arcs_cost holds_cost nodes_between
 spelled_path_route SpelledPath.here = ([], SpelledRoute.here, refl)
-spelled_path_route {M} {source} {parents = parents} (SpelledPath.on {t} p l m e n) =
+spelled_path_route {M} {source} {parents = parents} (SpelledPath.on {t} {c = d} p l m e n) =
     let r = spelled_path_route p in
     let o = out_leaves M source t l (unfold network in m) in
     let f : l.head ≡ head_of M l.arc = ap (λ (k : Link). k.head) o.1 in
     let g : l.cost ≡ arc_cost M source t l.arc = ap (λ (k : Link). k.cost) o.1 in
-    let s = SpelledRoute.on r.1 l.arc o.0 (rw f at e) (rw f at n) in
-    rw f (
-      r.0 ++ (l.arc ∷ []),
-      s,
-      omega (arith, cost_snoc M r.0 l.arc, r.2, spelled_end r.1, g),
-    )
+    rw f (spelled_on r.0 l.arc d l.cost r.1 r.2 o.0 (rw f at e) (rw f at n) g)
 
 module _ {M : Map} {source : ℕ} (sound : Sound M source) {parents : List ℕ} where
   same_spelled : {v w : ℕ} {route route' : List ℕ} → SpelledRoute M source parents v route → SpelledRoute M source parents w route' → v ≡ w → route ≡ route'
