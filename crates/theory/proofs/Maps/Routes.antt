@@ -102,7 +102,7 @@ spelled_end {M} {source} (SpelledRoute.on {route} r a h e n) = end_snoc M route 
 
 -- A spelled route and one arc more.
 spelled_on : {M : Map} {source : ℕ} {parents : List ℕ} {t : ℕ} (route : List ℕ) (a d k : ℕ) → SpelledRoute M source parents t route → route_cost M route ≡ d
-    → LeavesArc M t a → parent_of parents (head_of M a) ≡ a → (source ≡ head_of M a → ⊥) → k ≡ arc_cost M source t a
+    → Leaves M a t → parent_of parents (head_of M a) ≡ a → (source ≡ head_of M a → ⊥) → k ≡ arc_cost M source t a
     → (longer : List ℕ) × SpelledRoute M source parents (head_of M a) longer × (route_cost M longer ≡ d + k)
 spelled_on {M} route a d k r q h e n g = (route ++ (a ∷ []), SpelledRoute.on r a h e n, omega (arith, cost_snoc M route a, q, spelled_end r, g))
 
