@@ -10,7 +10,7 @@ import re
 import sys
 
 WORD = re.compile(r"[^\s(){}\[\],;.\"`]+")
-STD = {"getD": "get_or", "sym_": "sym_"}
+STD = {"getD": "get_or", "headOf": "head_of", "parentOf": "parent_of", "keyOf": "key_of", "countOf": "count_of", "startOf": "start_of", "holdOf": "hold_of"}
 
 
 def main():
@@ -27,7 +27,8 @@ def main():
         for line in before:
             if line.startswith(("old:", "new:")):
                 head, text = line[:4], line[4:]
-                text = re.sub(r" \.(?=[\w])", ".", text) if "specs/" in "".join(before) else text
+                if "specs/" in "".join(before):
+                    text = re.sub(r"(?<=\S) \.(?=[\w])", ".", text).replace("′", "'")
                 line = head + WORD.sub(lambda m: names.get(m.group(0), m.group(0)), text)
             after.append(line)
         if after != before:
