@@ -1,4 +1,4 @@
--- `check_lists::limits::heads_check` meets its contract: a head above n - 1 is one that is not below n. Assumes nothing.
+-- `check_lists::limits::heads_check` meets its contract: a head above n - 1 is one that is not below n.
 use mathlib.Core.Path.{◌≡◌, ◌∙◌, ap}
 use Prim.Native.Nat.{ℕ, suc, ◌-◌}
 use native.Mathlib.Omega.{arith}
@@ -7,19 +7,14 @@ use lib.ListN.{length, get_or}
 use borrow.Author.Rules.{rules}
 use Rattle.check_lists.specs.Lists.{word_above, heads_check}
 use Rattle.check_lists.proofs.Least.{same_tests}
-use Rattle.check_lists.proofs.limits.heads_check.Statement.{statement}
-use Rattle.check_lists.proofs.limits.heads_check.Tie as tie
+use Rattle.check_lists.proofs.limits.heads_check.Goals as goal
 
-returns : tie.Need-returns
+pub returns : goal.returns
 unfolding heads_check
 returns c =
-    let s : tie.Start = search rules in
-    let n = s.args.n in
-    let heads = s.args.heads.now in
+    let n = c.args.n in
+    let heads = c.args.heads.now in
     let above : suc (n - 1) ≡ n = omega arith in
-    c.limit-check.ensures
+    c.limit_check.ensures
     ∙ same_tests 7 (word_above (n - 1) heads) (λ a. leb n (get_or heads a 0)) 0 (length heads)
     (λ a low high. ap (λ (least : ℕ). leb least (get_or heads a 0)) above)
-
-pub heads-check-spec : {M : Type 1} → statement M
-heads-check-spec = tie.close (tie.spec (λ c. search rules) (λ c κs. search rules) returns)
