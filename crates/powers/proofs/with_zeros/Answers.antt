@@ -1,4 +1,4 @@
--- `powers::with_zeros` meets its contract: after i turns the first i words stand in place of zeros, and zeros past them. Assumes nothing.
+-- `powers::with_zeros` meets its contract: after i turns the first i words stand in place of zeros, and zeros past them.
 use mathlib.Core.Path.{◌≡◌, refl, sym, ap, ap₂, ◌∙◌}
 use mathlib.Core.List.{List, ◌++◌}
 use Prim.Native.Nat.{ℕ, zero, suc, ◌+◌, ◌-◌, ◌≤◌}
@@ -8,12 +8,9 @@ use native.Mathlib.Omega.{arith}
 use lib.ListN.{length, get_or, set, replicate, take, drop}
 use lib.Bits.{bit_or, or_zero_l}
 use lib.Seq.{paste, paste-zero, paste-suc, take-length, length-take-le, get_or-append-add}
-use borrow.Author.Rules.{rules}
-use Rattle.powers.proofs.with_zeros.Statement.{statement}
-use Rattle.powers.proofs.with_zeros.Tie as tie
+use Rattle.powers.proofs.with_zeros.Goals as goal
 
 -- ---- zeros
-
 abbrev zeros : ℕ → List ℕ
 zeros n = replicate n 0
 
@@ -27,7 +24,6 @@ first-zero zero = refl
 first-zero (suc n) = refl
 
 -- ---- a word joined to a zero
-
 still-zero : (words : List ℕ) (i : ℕ) → i ≤ length words → get_or (paste (zeros 21) 0 words i) i 0 ≡ 0
 still-zero words i h =
     let copied = take i words in
@@ -41,47 +37,23 @@ joined : (words row : List ℕ) (i : ℕ) → i ≤ length words → row ≡ pas
 joined words row i h e =
     ap (λ (x : ℕ). bit_or x (get_or words i 0)) (ap (λ (l : List ℕ). get_or l i 0) e ∙ still-zero words i h) ∙ or_zero_l (get_or words i 0)
 
--- ---- the loop
-
-abbrev invariant-loop : tie.invariant-loop
-invariant-loop words row₀ i₀ row i = (i ≤ length words) × (row ≡ paste (zeros 21) 0 words i)
-
-abbrev decreases-loop : tie.decreases-loop
-decreases-loop words row₀ i₀ row i = length words - i
-
-loop-again : tie.Need-loop-preserved invariant-loop decreases-loop
-loop-again c =
-    let t : tie.At-loop invariant-loop decreases-loop = search rules in
-    let words = t.before.args.words.now in
-    let i = t.loop.i in (
+pub loop-i-preserved : goal.loop-i-preserved
+loop-i-preserved c =
+    let words = c.args.words.now in
+    let i = c.loop-i.i in (
       omega arith,
-      ap₂ (λ (l : List ℕ) (x : ℕ). set l i x) t.loop.inv.1 (joined words t.loop.row i t.loop.inv.0 t.loop.inv.1)
+      ap₂ (λ (l : List ℕ) (x : ℕ). set l i x) c.loop-i.invariant.1 (joined words c.loop-i.row i c.loop-i.invariant.0 c.loop-i.invariant.1)
           ∙ ap (λ (k : ℕ). set (paste (zeros 21) 0 words i) k (get_or words i 0)) (sym (zero-add i))
           ∙ paste-suc (zeros 21) 0 words i 0 (omega arith) (omega arith)
           ∙ ap (paste (zeros 21) 0 words) (sym (add-one i)),
     )
 
-returns : tie.Need-returns invariant-loop decreases-loop
+pub returns : goal.returns
 returns c =
-    let s : tie.Start invariant-loop decreases-loop = search rules in
-    let words = s.args.words.now in
-    let i : c.before.loop.i ≡ length words = omega arith in
+    let words = c.args.words.now in
+    let i : c.loop-i.i ≡ length words = omega arith in
     let z : 0 + length words ≡ length words = zero-add (length words) in
-    c.before.loop.invariant.1 ∙ rw (i, z) (ap₂ (λ (l k : List ℕ). l ++ k) (take-length words) (zeros-left (length words) 21))
+    c.loop-i.invariant.1 ∙ rw (i, z) (ap₂ (λ (l k : List ℕ). l ++ k) (take-length words) (zeros-left (length words) 21))
 
-pub with-zeros-spec : {M : Type 1} → statement M
-with-zeros-spec =
-    tie.close
-    (tie.spec
-    invariant-loop
-    decreases-loop
-    (λ c. (omega arith, paste-zero (zeros 21) 0 c.args.words.now))
-    (λ c. search rules)
-    (λ c. search rules)
-    (λ c. search rules)
-    (λ c. search rules)
-    (λ c. search rules)
-    (λ c. search rules)
-    (λ c. search rules)
-    loop-again
-    returns)
+pub loop-i-init : goal.loop-i-init
+loop-i-init c = (omega arith, paste-zero (zeros 21) 0 c.args.words.now)
