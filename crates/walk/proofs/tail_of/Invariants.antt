@@ -1,0 +1,12 @@
+-- `walk::tail_of` meets its contract: what is left of the nodes is halved, and the arc leaves one of them.
+use Prim.Native.Nat.{◌-◌}
+use native.Mathlib.Omega.{arith}
+use borrow.Author.Rules.{rules}
+use Rattle.walk.proofs.Tails.{Within, within_start, within_inside, within_end}
+use Rattle.walk.proofs.tail_of.Given as goal
+
+abbrev pub invariant-loop-low : goal.invariant-loop-low
+invariant-loop-low l = Within l.n l.starts l.arc.0 l.low l.high
+
+abbrev pub decreases-loop-low : goal.decreases-loop-low
+decreases-loop-low l = l.high - l.low
