@@ -1,7 +1,7 @@
 // How many cases of each refusal there were, and the differences found in them; number 0 is for those accepted at an edge.
+use std::io;
 use test_reference_map::nodes;
 use test_reference_map::nodes::Table;
-use std::io;
 
 // The rows of the table that have the cases of each number and the differences of each.
 const CASES: u64 = 0;
