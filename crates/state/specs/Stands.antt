@@ -20,7 +20,7 @@ pub record Setting (layout : Layout) (sizes : List ℕ) : Type 0 where
   pub network : Network
   pub shape : Shape
   pub ceiling : ℕ
-  pub segment_looks_lem : ℕ
+  pub segment_looks : ℕ
   pub few_looks : segment_looks_lem ≤ 64
   pub arcs : ℕ
   pub admissible : Admissible network ceiling arcs
