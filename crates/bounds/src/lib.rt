@@ -18,7 +18,7 @@ pub fn bound_of(words: &[u32], n: usize, i: usize) -> u32
 }
 
 // The bucket of a key, and the bounds that the search for it has read (document 02, paper 3).
-#[derive(Drop)]
+#[derive(Clone, Copy)]
 pub struct BucketSearch {
     pub bucket: usize,
     pub reads: u32,
@@ -49,7 +49,7 @@ pub fn bucket_of(words: &[u32], n: usize, key: u32, start: usize) -> BucketSearc
 }
 
 // The same for a key that is no higher than the bound of the bucket where the search begins, and that bound.
-#[derive(Drop)]
+#[derive(Clone, Copy)]
 pub struct HeldSearch {
     pub bound: u32,
     pub bucket: usize,

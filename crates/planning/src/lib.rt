@@ -11,7 +11,7 @@ use reader::PlanAnswer;
 use report::HeapNumbers;
 
 // What a run has returned: number and place, then its numbers.
-#[derive(Drop)]
+#[derive(Clone, Copy)]
 pub struct RunNumbers {
     pub returned: u32,
     pub place: usize,
@@ -21,7 +21,7 @@ pub struct RunNumbers {
 }
 
 // What both runs have returned.
-#[derive(Drop)]
+#[derive(Clone, Copy)]
 pub struct BothNumbers {
     pub one: RunNumbers,
     pub two: RunNumbers,
