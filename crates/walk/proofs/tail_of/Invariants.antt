@@ -1,4 +1,3 @@
--- `walk::tail_of` meets its contract: what is left of the nodes is halved, and the arc leaves one of them.
 use Prim.Native.Nat.{◌-◌}
 use Rattle.walk.proofs.Tails.{Within}
 use Rattle.walk.proofs.tail_of.Given as goal
