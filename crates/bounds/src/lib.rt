@@ -2,7 +2,7 @@
 // heap").
 //     words[4 * n + i]    u(i), the bound of bucket i, for 1 ≤ i ≤ B; words[4 * n] is not used
 //     sizes[i]            the size of bucket i, for 1 ≤ i < B, and 1 at i = 0: a segment of bucket i is sizes[i - 1] keys wide
-// The one_level_lem heap has one segment to a bucket.
+// The one-level heap has one segment to a bucket.
 #![tactic(auto)]
 
 ghost use Rattle.std.specs.Prelude.{◌≡◌, ◌+◌, ◌*◌, ◌≤◌, ◌<◌, min, length};

@@ -5,11 +5,14 @@
 use fields::Field;
 use fields::reading::field_at;
 use model::Node;
+use std::env::FillError;
+use std::io;
+use std::rt::Env;
 
 // An argument of 1 to 7 digits is a field once a line feed stands behind it; one that is missing or longer than the text has length 0.
-fn argument(i: usize) -> Field {
+fn argument(rt: &impl Env, i: usize) -> Field {
     let mut text = [b'\n'; 9];
-    let got = os::arg(i, &mut text);
+    let got = rt.arg(i, &mut text).unwrap_or(0);
     let found = field_at(&text, 0, b'\n');
     match found {
         Field::NoField => Field::NoField,
@@ -23,21 +26,29 @@ fn argument(i: usize) -> Field {
     }
 }
 
-fn tell_use() {
-    io::write_all(
-        2,
-        b"convert: use: convert C SOURCE K < FILE, where C, SOURCE and K are numbers of at most 7 digits\n",
-    );
+// Whether an argument is there, of whatever length.
+fn is_given(rt: &impl Env, i: usize) -> bool {
+    let mut text = [0u8; 9];
+    match rt.arg(i, &mut text) {
+        Err(FillError::NotPresent) => false,
+        _ => true,
+    }
 }
 
-fn convert(ceiling: u32, source: u32, segments: u32) {
+fn tell_use(rt: &impl Eprint) -> io::Result<()> {
+    rt.eprintln(
+        "convert: use: convert C SOURCE K < FILE, where C, SOURCE and K are numbers of at most 7 digits",
+    )
+}
+
+fn convert(rt: &(impl Input + Print), ceiling: u32, source: u32, segments: u32) -> io::Result<()> {
     // One byte more than the most that is taken, so that a longer input is noticed.
     let mut input = [0u8; 65537];
     let mut starts = [0u32; 513];
     let mut heads = [0u32; 2048];
     let mut costs = [0u32; 2048];
     let mut output = [0u8; 40992];
-    let got = io::read_full(0, &mut input);
+    let got = streams::read_full(rt, &mut input)?;
     let written = conversion::answer(
         &input[..got],
         ceiling,
@@ -48,25 +59,25 @@ fn convert(ceiling: u32, source: u32, segments: u32) {
         &mut costs,
         &mut output,
     );
-    io::write_all(1, &output[..written]);
+    rt.write_all(&output[..written])
 }
 
-fn main() {
-    let Field::Value { value: ceiling, .. } = argument(1) else {
-        return tell_use();
+fn main(rt: HostRuntime) -> io::Result<()> {
+    let Field::Value { value: ceiling, .. } = argument(&rt, 1) else {
+        return tell_use(&rt);
     };
-    let Field::Value { value: source, .. } = argument(2) else {
-        return tell_use();
+    let Field::Value { value: source, .. } = argument(&rt, 2) else {
+        return tell_use(&rt);
     };
     let Field::Value {
         value: segments,
         ..
-    } = argument(3)
+    } = argument(&rt, 3)
     else {
-        return tell_use();
+        return tell_use(&rt);
     };
-    if os::arg_count() != 4 {
-        return tell_use();
+    if is_given(&rt, 4) {
+        return tell_use(&rt);
     }
-    convert(ceiling, source, segments);
+    convert(&rt, ceiling, source, segments)
 }

@@ -1,7 +1,9 @@
 // The program `plan`: a planning file on standard input, its answer on standard output (document 01, "Planning file").
 #![tactic(auto)]
 
-fn main() {
+use std::io;
+
+fn main(rt: HostRuntime) -> io::Result<()> {
     // One byte more than the most that is taken, so that a longer input is noticed.
     let mut input = [0u8; 65537];
     let mut starts = [0u32; 513];
@@ -13,7 +15,7 @@ fn main() {
     let mut roster = [0u32; 512];
     let mut work = [0u32; 2432];
     let mut output = [0u8; 33280];
-    let got = io::read_full(0, &mut input);
+    let got = streams::read_full(&rt, &mut input)?;
     let written = planning::answer(
         &input[..got],
         &mut starts,
@@ -26,5 +28,5 @@ fn main() {
         &mut work,
         &mut output,
     );
-    io::write_all(1, &output[..written]);
+    rt.write_all(&output[..written])
 }

@@ -103,7 +103,7 @@ fn write_runs(
     )
 }
 
-// Both runs of the map in the lists, the two_level_lem run behind the one_level_lem run.
+// Both runs of the map in the lists, the two-level run behind the one-level run.
 fn run_both(
     nodes: u32,
     arcs: u32,

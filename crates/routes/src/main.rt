@@ -2,7 +2,9 @@
 // file").
 #![tactic(auto)]
 
-fn main() {
+use std::io;
+
+fn main(rt: HostRuntime) -> io::Result<()> {
     // One byte more than the most that is taken, so that a longer input is noticed.
     let mut input = [0u8; 65537];
     let mut starts = [0u32; 513];
@@ -15,7 +17,7 @@ fn main() {
     let mut work = [0u32; 2432];
     let mut route = [0u32; 512];
     let mut output = [0u8; 1056800];
-    let got = io::read_full(0, &mut input);
+    let got = streams::read_full(&rt, &mut input)?;
     let written = itineraries::answer(
         &input[..got],
         &mut starts,
@@ -29,5 +31,5 @@ fn main() {
         &mut route,
         &mut output,
     );
-    io::write_all(1, &output[..written]);
+    rt.write_all(&output[..written])
 }

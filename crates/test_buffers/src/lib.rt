@@ -1,7 +1,6 @@
 // A buffer of which a part is lent, full of junk before: what stands before that part, behind it and behind a file in it is to stay.
 #![tactic(auto)]
 
-
 // Where the part that is lent begins.
 const FIRST: usize = 8;
 

@@ -6,9 +6,10 @@ use test_rows::lists::front;
 use test_rows::map::{COSTS, HEADS, HOLDS, PARENTS, part};
 use test_rows::printing::{print_byte_sums, print_sums, print_words};
 use test_rows::rows::Row;
+use std::io;
 
 // Row: one N,C,SOURCE STARTS,HEADS,COSTS,HOLDS DISTANCES,PARENTS,ROSTER,WORK
-fn one_level(row: Row, starts: &[u32], heads: &[u32], costs: &[u32], holds: &[u32]) {
+fn one_level(rt: &impl Print, row: Row, starts: &[u32], heads: &[u32], costs: &[u32], holds: &[u32]) -> io::Result<()> {
     let mut distances = [1000001u32; 4096];
     let mut parents = [2000003u32; 4096];
     let mut roster = [3000017u32; 4096];
@@ -26,13 +27,13 @@ fn one_level(row: Row, starts: &[u32], heads: &[u32], costs: &[u32], holds: &[u3
         front(&mut roster, row.n10),
         front(&mut work, row.n11),
     );
-    crate::printing::print_run(answer);
-    print_lists(&distances, &parents, &roster, &work);
-    print_roster(row, &roster);
+    crate::printing::print_run(rt, answer)?;
+    print_lists(rt, &distances, &parents, &roster, &work)?;
+    print_roster(rt, row, &roster)
 }
 
 // Row: two N,C,SOURCE STARTS,HEADS,COSTS,HOLDS DISTANCES,PARENTS,ROSTER,WORK K
-fn two_level(row: Row, starts: &[u32], heads: &[u32], costs: &[u32], holds: &[u32]) {
+fn two_level(rt: &impl Print, row: Row, starts: &[u32], heads: &[u32], costs: &[u32], holds: &[u32]) -> io::Result<()> {
     let mut distances = [1000001u32; 4096];
     let mut parents = [2000003u32; 4096];
     let mut roster = [3000017u32; 4096];
@@ -51,30 +52,31 @@ fn two_level(row: Row, starts: &[u32], heads: &[u32], costs: &[u32], holds: &[u3
         front(&mut roster, row.n10),
         front(&mut work, row.n11),
     );
-    crate::printing::print_run(answer);
-    print_lists(&distances, &parents, &roster, &work);
-    print_roster(row, &roster);
+    crate::printing::print_run(rt, answer)?;
+    print_lists(rt, &distances, &parents, &roster, &work)?;
+    print_roster(rt, row, &roster)
 }
 
 // A row scan has the roster's lent words behind each run, so that their order can be read.
-fn print_roster(row: Row, roster: &[u32]) {
+fn print_roster(rt: &impl Print, row: Row, roster: &[u32]) -> io::Result<()> {
     if row.word == b's' {
-        io::write_all(1, b"roster");
-        print_words(part(roster, 0, row.n10));
-        io::write_all(1, b"\n");
+        rt.write_all(b"roster")?;
+        print_words(rt, part(roster, 0, row.n10))?;
+        rt.write_all(b"\n")?;
     }
+    Ok(())
 }
 
-fn print_lists(first: &[u32], second: &[u32], third: &[u32], fourth: &[u32]) {
-    print_sums(first);
-    print_sums(second);
-    print_sums(third);
-    print_sums(fourth);
-    io::write_all(1, b"\n");
+fn print_lists(rt: &impl Print, first: &[u32], second: &[u32], third: &[u32], fourth: &[u32]) -> io::Result<()> {
+    print_sums(rt, first)?;
+    print_sums(rt, second)?;
+    print_sums(rt, third)?;
+    print_sums(rt, fourth)?;
+    rt.write_all(b"\n")
 }
 
 // Row: route N,SOURCE,DESTINATION STARTS,HEADS,PARENTS ROUTE
-pub fn walk(row: Row, map: &[u32]) {
+pub fn walk(rt: &impl Print, row: Row, map: &[u32]) -> io::Result<()> {
     let mut route = [7000003u32; 4100];
     let answer = route::route(
         row.n1,
@@ -85,13 +87,13 @@ pub fn walk(row: Row, map: &[u32]) {
         Node(row.n3),
         front(&mut route, row.n7),
     );
-    crate::printing::print_route(answer);
-    print_sums(&route);
-    io::write_all(1, b"\n");
+    crate::printing::print_route(rt, answer)?;
+    print_sums(rt, &route)?;
+    rt.write_all(b"\n")
 }
 
 // Row: plan
-pub fn plan(file: &[u8]) {
+pub fn plan(rt: &impl Print, file: &[u8]) -> io::Result<()> {
     let mut starts = [1000003u32; 513];
     let mut heads = [2000003u32; 2048];
     let mut costs = [3000017u32; 2048];
@@ -113,14 +115,15 @@ pub fn plan(file: &[u8]) {
         &mut work,
         &mut output,
     );
-    print_file(file, &output, length);
+    print_file(rt, file, &output, length)?;
     print_all(
+        rt,
         &starts, &heads, &costs, &holds, &distances, &parents, &roster, &work,
-    );
+    )
 }
 
 // Row: into STARTS,HEADS,COSTS,HOLDS
-pub fn read(row: Row, file: &[u8]) {
+pub fn read(rt: &impl Print, row: Row, file: &[u8]) -> io::Result<()> {
     let mut starts = [1000003u32; 4100];
     let mut heads = [2000003u32; 2050];
     let mut costs = [3000017u32; 2050];
@@ -132,28 +135,27 @@ pub fn read(row: Row, file: &[u8]) {
         front(&mut costs, row.n3),
         front(&mut holds, row.n4),
     );
-    print_bytes(file);
-    crate::printing::print_read(answer);
-    print_lists(&starts, &heads, &costs, &holds);
+    print_bytes(rt, file)?;
+    crate::printing::print_read(rt, answer)?;
+    print_lists(rt, &starts, &heads, &costs, &holds)
 }
 
-fn print_bytes(file: &[u8]) {
-    io::write_all(1, b"bytes ");
-    io::print_decimal(1, file.len() as u64);
-    print_byte_sums(file);
-    io::write_all(1, b"\n");
+fn print_bytes(rt: &impl Print, file: &[u8]) -> io::Result<()> {
+    rt.write_all(b"bytes ")?;
+    rt.print(file.len() as u64)?;
+    print_byte_sums(rt, file)?;
+    rt.write_all(b"\n")
 }
 
 // All of the output is in its sums, what was not written too.
-fn print_file(file: &[u8], output: &[u8; 33280], length: usize) {
-    print_bytes(file);
-    io::write_all(1, made(output, length));
-    io::write_all(1, b"sums");
-    print_byte_sums(output);
+fn print_file(rt: &impl Print, file: &[u8], output: &[u8; 33280], length: usize) -> io::Result<()> {
+    print_bytes(rt, file)?;
+    rt.write_all(made(output, length))?;
+    rt.write_all(b"sums")?;
+    print_byte_sums(rt, output)
 }
 
-fn print_all(
-    starts: &[u32; 513],
+fn print_all(rt: &impl Print, starts: &[u32; 513],
     heads: &[u32; 2048],
     costs: &[u32; 2048],
     holds: &[u32; 512],
@@ -161,30 +163,30 @@ fn print_all(
     parents: &[u32; 512],
     roster: &[u32; 512],
     work: &[u32; 2432],
-) {
-    print_sums(starts);
-    print_sums(heads);
-    print_sums(costs);
-    print_sums(holds);
-    print_lists(distances, parents, roster, work);
+) -> io::Result<()> {
+    print_sums(rt, starts)?;
+    print_sums(rt, heads)?;
+    print_sums(rt, costs)?;
+    print_sums(rt, holds)?;
+    print_lists(rt, distances, parents, roster, work)
 }
 
 // Row: scan, as two
-fn both_levels(row: Row, starts: &[u32], heads: &[u32], costs: &[u32], holds: &[u32]) {
-    one_level(row, starts, heads, costs, holds);
-    two_level(row, starts, heads, costs, holds);
+fn both_levels(rt: &impl Print, row: Row, starts: &[u32], heads: &[u32], costs: &[u32], holds: &[u32]) -> io::Result<()> {
+    one_level(rt, row, starts, heads, costs, holds)?;
+    two_level(rt, row, starts, heads, costs, holds)
 }
 
 // The rows that make a run.
-pub fn run(row: Row, map: &[u32]) {
+pub fn run(rt: &impl Print, row: Row, map: &[u32]) -> io::Result<()> {
     let starts = part(map, 0, row.n4);
     let heads = part(map, HEADS, row.n5);
     let costs = part(map, COSTS, row.n6);
     let holds = part(map, HOLDS, row.n7);
     let word = row.word;
     match word {
-        b'o' => one_level(row, starts, heads, costs, holds),
-        b't' => two_level(row, starts, heads, costs, holds),
-        _ => both_levels(row, starts, heads, costs, holds),
+        b'o' => one_level(rt, row, starts, heads, costs, holds),
+        b't' => two_level(rt, row, starts, heads, costs, holds),
+        _ => both_levels(rt, row, starts, heads, costs, holds),
     }
 }

@@ -6,26 +6,27 @@
 use planning_file::File;
 use test_rows::map::Map;
 use test_rows::{bytes, map, rows};
+use std::io;
 
 mod calls;
 mod planning_file;
 mod printing;
 
 // One row, told by the first letter of its word; gives back how many bytes the planning file then has.
-fn act(line: &[u8], map: &mut Map, file: &mut File, written: usize) -> usize {
-    test_rows::printing::print_line(line);
+fn act(rt: &impl Print, line: &[u8], map: &mut Map, file: &mut File, written: usize) -> io::Result<usize> {
+    test_rows::printing::print_line(rt, line)?;
     let row = rows::row_of(line);
     let word = row.word;
     match word {
         b'w' => map::put_words(map, row, line),
         b'f' | b'd' => map::spread(map, row),
-        b'o' | b't' | b's' => calls::run(row, map),
-        b'r' => calls::walk(row, map),
-        b'p' => calls::plan(bytes::made(file, written)),
-        b'i' => calls::read(row, bytes::made(file, written)),
+        b'o' | b't' | b's' => calls::run(rt, row, map)?,
+        b'r' => calls::walk(rt, row, map)?,
+        b'p' => calls::plan(rt, bytes::made(file, written))?,
+        b'i' => calls::read(rt, row, bytes::made(file, written))?,
         _ => (),
     }
-    match word {
+    Ok(match word {
         b'l' => bytes::append_line(file, written, line, row.text),
         b'h' => bytes::append(file, written, line, row.text),
         b'b' => planning_file::fill_up(file, written, row),
@@ -33,26 +34,27 @@ fn act(line: &[u8], map: &mut Map, file: &mut File, written: usize) -> usize {
         b'n' => planning_file::append_holds(file, written, map, row),
         b'p' | b'i' => 0,
         _ => written,
-    }
+    })
 }
 
-fn act_all(input: &[u8]) {
+fn act_all(rt: &impl Print, input: &[u8]) -> io::Result<()> {
     let mut map = [0u32; 143368];
     let mut file = [0u8; 65537];
     let mut at = 0;
     let mut written = 0;
     while at < input.len() {
         let end = rows::line_end(input, at);
-        written = act(&input[at..end], &mut map, &mut file, written);
+        written = act(rt, &input[at..end], &mut map, &mut file, written)?;
         if end == input.len() {
-            return;
+            return Ok(());
         }
         at = end + 1;
     }
+    Ok(())
 }
 
-fn main() {
-    let mut input = io::large_buffer();
-    let got = io::read_full(0, &mut input);
-    act_all(&input[..got]);
+fn main(rt: HostRuntime) -> io::Result<()> {
+    let mut input = [0u8; 65536];
+    let got = streams::read_full(&rt, &mut input)?;
+    act_all(&rt, &input[..got])
 }

@@ -5,9 +5,10 @@ use model::Node;
 use test_rows::lists::front;
 use test_rows::map::{COSTS, HEADS, HOLDS, part};
 use test_rows::rows::Row;
+use std::io;
 
 // How many words are lent of each list.
-#[derive(Drop)]
+#[derive(Clone, Copy)]
 pub struct Lent {
     pub distances: u32,
     pub parents: u32,
@@ -34,7 +35,7 @@ pub fn lent_of(row: Row) -> Lent {
 }
 
 // Row: one N,C,DESTINATION STARTS,HEADS,COSTS,HOLDS
-pub fn one_level(row: Row, lent: Lent, map: &[u32]) {
+pub fn one_level(rt: &impl Print, row: Row, lent: Lent, map: &[u32]) -> io::Result<()> {
     let mut distances = [1000001u32; 4100];
     let mut parents = [2000003u32; 4100];
     let mut roster = [3000017u32; 4100];
@@ -60,13 +61,13 @@ pub fn one_level(row: Row, lent: Lent, map: &[u32]) {
         front(&mut costs, lent.costs),
         front(&mut old_arcs, lent.old_arcs),
     );
-    print_answer(answer);
-    print_run(row.word, lent, &distances, &parents, &roster, &work);
-    print_reversed(row.word, lent, &starts, &heads, &costs, &old_arcs);
+    print_answer(rt, answer)?;
+    print_run(rt, row.word, lent, &distances, &parents, &roster, &work)?;
+    print_reversed(rt, row.word, lent, &starts, &heads, &costs, &old_arcs)
 }
 
 // Row: two N,C,DESTINATION STARTS,HEADS,COSTS,HOLDS K
-pub fn two_level(row: Row, lent: Lent, map: &[u32]) {
+pub fn two_level(rt: &impl Print, row: Row, lent: Lent, map: &[u32]) -> io::Result<()> {
     let mut distances = [1000001u32; 4100];
     let mut parents = [2000003u32; 4100];
     let mut roster = [3000017u32; 4100];
@@ -93,13 +94,13 @@ pub fn two_level(row: Row, lent: Lent, map: &[u32]) {
         front(&mut costs, lent.costs),
         front(&mut old_arcs, lent.old_arcs),
     );
-    print_answer(answer);
-    print_run(row.word, lent, &distances, &parents, &roster, &work);
-    print_reversed(row.word, lent, &starts, &heads, &costs, &old_arcs);
+    print_answer(rt, answer)?;
+    print_run(rt, row.word, lent, &distances, &parents, &roster, &work)?;
+    print_reversed(rt, row.word, lent, &starts, &heads, &costs, &old_arcs)
 }
 
 // Rows: both, sums, as two
-pub fn both_levels(row: Row, lent: Lent, map: &[u32]) {
-    one_level(row, lent, map);
-    two_level(row, lent, map);
+pub fn both_levels(rt: &impl Print, row: Row, lent: Lent, map: &[u32]) -> io::Result<()> {
+    one_level(rt, row, lent, map)?;
+    two_level(rt, row, lent, map)
 }

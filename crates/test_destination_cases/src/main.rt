@@ -5,45 +5,47 @@
 use calls::Lent;
 use test_rows::map::Map;
 use test_rows::{map, rows};
+use std::io;
 
 mod calls;
 mod printing;
 
 // One row, told by the first letter of its word; gives back how many words are then lent of each list.
-fn act(line: &[u8], map: &mut Map, lent: Lent) -> Lent {
-    test_rows::printing::print_line(line);
+fn act(rt: &impl Print, line: &[u8], map: &mut Map, lent: Lent) -> io::Result<Lent> {
+    test_rows::printing::print_line(rt, line)?;
     let row = rows::row_of(line);
     let word = row.word;
     match word {
         b'w' => map::put_words(map, row, line),
         b'f' | b'd' => map::spread(map, row),
-        b'o' => calls::one_level(row, lent, map),
-        b't' => calls::two_level(row, lent, map),
-        b'b' | b's' => calls::both_levels(row, lent, map),
+        b'o' => calls::one_level(rt, row, lent, map)?,
+        b't' => calls::two_level(rt, row, lent, map)?,
+        b'b' | b's' => calls::both_levels(rt, row, lent, map)?,
         _ => (),
     }
     if word == b'l' {
-        return calls::lent_of(row);
+        return Ok(calls::lent_of(row));
     }
-    lent
+    Ok(lent)
 }
 
-fn act_all(input: &[u8]) {
+fn act_all(rt: &impl Print, input: &[u8]) -> io::Result<()> {
     let mut map = [0u32; 143368];
     let mut lent = calls::lent_of(rows::row_of(b""));
     let mut at = 0;
     while at < input.len() {
         let end = rows::line_end(input, at);
-        lent = act(&input[at..end], &mut map, lent);
+        lent = act(rt, &input[at..end], &mut map, lent)?;
         if end == input.len() {
-            return;
+            return Ok(());
         }
         at = end + 1;
     }
+    Ok(())
 }
 
-fn main() {
-    let mut input = io::large_buffer();
-    let got = io::read_full(0, &mut input);
-    act_all(&input[..got]);
+fn main(rt: HostRuntime) -> io::Result<()> {
+    let mut input = [0u8; 65536];
+    let got = streams::read_full(&rt, &mut input)?;
+    act_all(&rt, &input[..got])
 }

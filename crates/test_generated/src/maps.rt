@@ -29,7 +29,7 @@ pub const SAME_DEGREE: u32 = 10;
 pub const RULES: u32 = 11;
 
 // `measure` is the rule's own number: the most arcs of a node, a grid's width, a cost's factor.
-#[derive(Drop)]
+#[derive(Clone, Copy)]
 pub struct Map {
     pub rule: u32,
     pub nodes: u32,

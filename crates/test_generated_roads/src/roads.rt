@@ -7,7 +7,7 @@ const NOWHERE: u32 = 4294967295;
 
 // The p line stands before arc number `problem`, and a second one before arc number `again`. Of arc `edge_arc` the tail, the head or the cost
 // is `edge_number`, by `edge_field`. The last four are what the file is read with.
-#[derive(Drop)]
+#[derive(Clone, Copy)]
 pub struct Road {
     pub nodes: u32,
     pub arcs: u32,

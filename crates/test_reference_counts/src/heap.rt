@@ -3,8 +3,8 @@
 use test_reference_map::nodes::Table;
 use test_reference_map::{nodes, words};
 
-// K is `segments`, B is `buckets`, nC + 1 is `top`. The one_level_lem heap has one segment to a bucket.
-#[derive(Drop)]
+// K is `segments`, B is `buckets`, nC + 1 is `top`. The one-level heap has one segment to a bucket.
+#[derive(Clone, Copy)]
 pub struct Heap {
     pub levels: u64,
     pub segments: u64,
@@ -95,7 +95,7 @@ pub fn first_bounds(heap: Heap, table: &mut Table) {
 }
 
 // The bucket of a key, and the bounds that the search for it has read (document 02, paper 3).
-#[derive(Drop)]
+#[derive(Clone, Copy)]
 pub struct Found {
     pub bucket: u64,
     pub reads: u64,

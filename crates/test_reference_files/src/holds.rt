@@ -6,7 +6,7 @@ use test_reference_map::refusal::{Refusal, refuse};
 use test_reference_map::{map, words};
 
 // What some lines are refused for, and the place past those that are not.
-#[derive(Drop)]
+#[derive(Clone, Copy)]
 pub struct LinesRead {
     pub found: Refusal,
     pub next: u64,

@@ -5,7 +5,7 @@ use test_reference_map::{nodes, words};
 pub type Text = [u8; 65544];
 
 // A line's numbers, of which only the first `count` are written.
-#[derive(Drop)]
+#[derive(Clone, Copy)]
 pub struct Numbers {
     pub count: u64,
     pub first: u64,

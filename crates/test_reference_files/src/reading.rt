@@ -10,21 +10,21 @@ const COMMA: u64 = 44;
 const LINE_FEED: u64 = 10;
 
 // The digits from a place on, up to 8, and the number that they make.
-#[derive(Drop)]
+#[derive(Clone, Copy)]
 struct DigitsRead {
     count: u64,
     number: u64,
 }
 
 // A field and the place past what ends it.
-#[derive(Drop)]
+#[derive(Clone, Copy)]
 pub struct FieldRead {
     pub number: u64,
     pub next: u64,
 }
 
 // Line 1, of five fields or with a sixth that says that holds follow the arcs, and the place past it.
-#[derive(Drop)]
+#[derive(Clone, Copy)]
 pub struct Header {
     pub nodes: u64,
     pub arcs: u64,
@@ -36,7 +36,7 @@ pub struct Header {
 }
 
 // The fields of line 1 from the fifth on, and the place past it.
-#[derive(Drop)]
+#[derive(Clone, Copy)]
 struct HeaderEnd {
     segments: u64,
     with_holds: bool,
@@ -44,7 +44,7 @@ struct HeaderEnd {
 }
 
 // The line of an arc, and the place past it.
-#[derive(Drop)]
+#[derive(Clone, Copy)]
 pub struct ArcLine {
     pub tail: u64,
     pub head: u64,

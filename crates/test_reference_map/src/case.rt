@@ -1,6 +1,6 @@
 // A run's numbers and the words lent of each of its lists (document 01, "What the planner holds and leaves out", and for the holds document
 // 02, paper 2).
-#[derive(Drop)]
+#[derive(Clone, Copy)]
 pub struct Case {
     pub nodes: u32,
     pub ceiling: u32,
@@ -17,7 +17,7 @@ pub struct Case {
 }
 
 // What a run counts, and the highest bucket that a removal used.
-#[derive(Drop)]
+#[derive(Clone, Copy)]
 pub struct Counts {
     pub reached: u64,
     pub buckets: u64,

@@ -1,5 +1,5 @@
 // What a call is refused for (document 01, "What a call returns"). Number 0 stands for none.
-#[derive(Drop)]
+#[derive(Clone, Copy)]
 pub struct Refusal {
     pub number: u64,
     pub place: u64,

@@ -15,7 +15,7 @@ const SPACE: u64 = 32;
 const LINE_FEED: u64 = 10;
 
 // What a line is, its numbers, and the place past it.
-#[derive(Drop)]
+#[derive(Clone, Copy)]
 pub struct Line {
     pub kind: u64,
     pub first: u64,

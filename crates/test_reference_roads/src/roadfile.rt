@@ -7,7 +7,7 @@ use test_reference_map::refusal::{Refusal, refuse};
 use test_reference_map::words;
 
 // The ceiling, and how many words are lent of each list.
-#[derive(Drop)]
+#[derive(Clone, Copy)]
 pub struct Lent {
     pub ceiling: u64,
     pub starts: u64,
@@ -16,7 +16,7 @@ pub struct Lent {
 }
 
 // How far a file is read: the lines and the place past them, whether the `p` line is among them, its n and m, and the arcs.
-#[derive(Drop)]
+#[derive(Clone, Copy)]
 struct Passed {
     lines: u64,
     at: u64,
@@ -27,7 +27,7 @@ struct Passed {
 }
 
 // What a file is refused for; of one that is read number 0, n and m.
-#[derive(Drop)]
+#[derive(Clone, Copy)]
 pub struct Outcome {
     pub number: u64,
     pub place: u64,

@@ -6,7 +6,7 @@ use test_reference_map::nodes::Table;
 use test_reference_map::{map, nodes, words};
 
 // What a walk gives: its number of nodes, or a refusal.
-#[derive(Drop)]
+#[derive(Clone, Copy)]
 pub struct Walk {
     pub number: u64,
     pub place: u64,

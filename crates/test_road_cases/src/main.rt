@@ -4,19 +4,20 @@
 
 use road_file::File;
 use test_rows::{bytes, rows};
+use std::io;
 
 mod reading;
 mod road_file;
 
 // One row, told by the first letter of its word; gives back how many bytes the road file then has.
-fn act(line: &[u8], file: &mut File, written: usize) -> usize {
-    test_rows::printing::print_line(line);
+fn act(rt: &impl Print, line: &[u8], file: &mut File, written: usize) -> io::Result<usize> {
+    test_rows::printing::print_line(rt, line)?;
     let row = rows::row_of(line);
     let word = row.word;
     if word == b'r' {
-        reading::read(row, bytes::made(file, written));
+        reading::read(rt, row, bytes::made(file, written))?;
     }
-    match word {
+    Ok(match word {
         b'f' => 0,
         b'l' => bytes::append_line(file, written, line, row.text),
         b'h' => bytes::append(file, written, line, row.text),
@@ -24,25 +25,26 @@ fn act(line: &[u8], file: &mut File, written: usize) -> usize {
         b't' => road_file::append_times(file, written, line, row),
         b'a' => road_file::append_arcs(file, written, row),
         _ => written,
-    }
+    })
 }
 
-fn act_all(input: &[u8]) {
+fn act_all(rt: &impl Print, input: &[u8]) -> io::Result<()> {
     let mut file = [0u8; 1400000];
     let mut at = 0;
     let mut written = 0;
     while at < input.len() {
         let end = rows::line_end(input, at);
-        written = act(&input[at..end], &mut file, written);
+        written = act(rt, &input[at..end], &mut file, written)?;
         if end == input.len() {
-            return;
+            return Ok(());
         }
         at = end + 1;
     }
+    Ok(())
 }
 
-fn main() {
-    let mut input = io::large_buffer();
-    let got = io::read_full(0, &mut input);
-    act_all(&input[..got]);
+fn main(rt: HostRuntime) -> io::Result<()> {
+    let mut input = [0u8; 65536];
+    let got = streams::read_full(&rt, &mut input)?;
+    act_all(&rt, &input[..got])
 }

@@ -4,9 +4,10 @@ use dimacs::DimacsAnswer;
 use test_rows::lists::front;
 use test_rows::printing::{print_byte_sums, print_number, print_sums};
 use test_rows::rows::Row;
+use std::io;
 
 // Row: read C STARTS,HEADS,COSTS SHOWN
-pub fn read(row: Row, file: &[u8]) {
+pub fn read(rt: &impl Print, row: Row, file: &[u8]) -> io::Result<()> {
     let mut starts = [1000003u32; 4100];
     let mut heads = [2000003u32; 65540];
     let mut costs = [3000017u32; 65540];
@@ -17,44 +18,44 @@ pub fn read(row: Row, file: &[u8]) {
         front(&mut heads, row.n3),
         front(&mut costs, row.n4),
     );
-    print_file(file);
-    print_answer(answer);
+    print_file(rt, file)?;
+    print_answer(rt, answer)?;
     if row.n5 > 0 {
-        print_words(b"starts", &starts, row.n5);
-        print_words(b"heads", &heads, row.n5);
-        print_words(b"costs", &costs, row.n5);
+        print_words(rt, b"starts", &starts, row.n5)?;
+        print_words(rt, b"heads", &heads, row.n5)?;
+        print_words(rt, b"costs", &costs, row.n5)?;
     }
-    io::write_all(1, b"sums");
-    print_sums(&starts);
-    print_sums(&heads);
-    print_sums(&costs);
-    io::write_all(1, b"\n");
+    rt.write_all(b"sums")?;
+    print_sums(rt, &starts)?;
+    print_sums(rt, &heads)?;
+    print_sums(rt, &costs)?;
+    rt.write_all(b"\n")
 }
 
-fn print_file(file: &[u8]) {
-    io::write_all(1, b"bytes ");
-    io::print_decimal(1, file.len() as u64);
-    print_byte_sums(file);
-    io::write_all(1, b"\n");
+fn print_file(rt: &impl Print, file: &[u8]) -> io::Result<()> {
+    rt.write_all(b"bytes ")?;
+    rt.print(file.len() as u64)?;
+    print_byte_sums(rt, file)?;
+    rt.write_all(b"\n")
 }
 
 // Number and place, n and m.
-fn print_answer(answer: DimacsAnswer) {
+fn print_answer(rt: &impl Print, answer: DimacsAnswer) -> io::Result<()> {
     match answer {
-        DimacsAnswer::Read { nodes, arcs } => print_numbers(0, 0, nodes as u64, arcs as u64),
+        DimacsAnswer::Read { nodes, arcs } => print_numbers(rt, 0, 0, nodes as u64, arcs as u64),
         DimacsAnswer::Refused { number, place } => {
-            print_numbers(number as u64, place as u64, 0, 0)
+            print_numbers(rt, number as u64, place as u64, 0, 0)
         }
     }
 }
 
-fn print_numbers(number: u64, place: u64, nodes: u64, arcs: u64) {
-    io::write_all(1, b"answer");
-    print_number(number);
-    print_number(place);
-    print_number(nodes);
-    print_number(arcs);
-    io::write_all(1, b"\n");
+fn print_numbers(rt: &impl Print, number: u64, place: u64, nodes: u64, arcs: u64) -> io::Result<()> {
+    rt.write_all(b"answer")?;
+    print_number(rt, number)?;
+    print_number(rt, place)?;
+    print_number(rt, nodes)?;
+    print_number(rt, arcs)?;
+    rt.write_all(b"\n")
 }
 
 fn wide(word: u32) -> u64 {
@@ -62,13 +63,13 @@ fn wide(word: u32) -> u64 {
 }
 
 // The first words of a list.
-fn print_words(name: &[u8], list: &[u32], count: u32) {
+fn print_words(rt: &impl Print, name: &[u8], list: &[u32], count: u32) -> io::Result<()> {
     let end = count as usize;
-    io::write_all(1, name);
+    rt.write_all(name)?;
     let mut i = 0;
     while i < end && i < list.len() {
-        print_number(wide(list[i]));
+        print_number(rt, wide(list[i]))?;
         i += 1;
     }
-    io::write_all(1, b"\n");
+    rt.write_all(b"\n")
 }

@@ -1,4 +1,5 @@
 // A file that rows make; each function gives the place past what it has written. Nothing is written past the file's end.
+use itoa::Buffer;
 
 pub fn put(file: &mut [u8], at: usize, byte: u8) -> usize {
     if at < file.len() {
@@ -26,9 +27,8 @@ pub fn append_line(file: &mut [u8], at: usize, bytes: &[u8], from: usize) -> usi
 }
 
 pub fn append_number(file: &mut [u8], at: usize, number: u32, ended_by: u8) -> usize {
-    let mut digits = [0u8; 20];
-    let count = io::decimal(number as u64, &mut digits);
-    let next = append(file, at, &digits[..count], 0);
+    let mut digits = Buffer::new();
+    let next = append(file, at, digits.format(number).as_bytes(), 0);
     put(file, next, ended_by)
 }
 

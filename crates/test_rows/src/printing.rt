@@ -1,21 +1,23 @@
 // What a row gives, in numbers.
+use std::io;
 
-pub fn print_line(line: &[u8]) {
-    io::write_all(1, line);
-    io::write_all(1, b"\n");
+pub fn print_line(rt: &impl Print, line: &[u8]) -> io::Result<()> {
+    rt.write_all(line)?;
+    rt.write_all(b"\n")
 }
 
-pub fn print_number(number: u64) {
-    io::write_all(1, b" ");
-    io::print_decimal(1, number);
+pub fn print_number(rt: &impl Print, number: u64) -> io::Result<()> {
+    rt.write_all(b" ")?;
+    rt.print(number)
 }
 
-pub fn print_words(list: &[u32]) {
+pub fn print_words(rt: &impl Print, list: &[u32]) -> io::Result<()> {
     let mut i = 0;
     while i < list.len() {
-        print_number(wide(list[i]));
+        print_number(rt, wide(list[i]))?;
         i += 1;
     }
+    Ok(())
 }
 
 // Sums stay far below 2^62: 33,280 bytes of a text, 1,400,000 of a road file, 16,768 words, or 65,540 words below 2^22, weighted by at most as
@@ -33,7 +35,7 @@ fn wide_byte(byte: u8) -> u64 {
 }
 
 // A list's plain sum and its sum weighted by place, the last word once and each earlier one once more.
-pub fn print_sums(list: &[u32]) {
+pub fn print_sums(rt: &impl Print, list: &[u32]) -> io::Result<()> {
     let mut plain: u64 = 0;
     let mut weighted: u64 = 0;
     let mut i = 0;
@@ -42,11 +44,11 @@ pub fn print_sums(list: &[u32]) {
         weighted = plus(weighted, plain);
         i += 1;
     }
-    print_number(plain);
-    print_number(weighted);
+    print_number(rt, plain)?;
+    print_number(rt, weighted)
 }
 
-pub fn print_byte_sums(list: &[u8]) {
+pub fn print_byte_sums(rt: &impl Print, list: &[u8]) -> io::Result<()> {
     let mut plain: u64 = 0;
     let mut weighted: u64 = 0;
     let mut i = 0;
@@ -55,6 +57,6 @@ pub fn print_byte_sums(list: &[u8]) {
         weighted = plus(weighted, plain);
         i += 1;
     }
-    print_number(plain);
-    print_number(weighted);
+    print_number(rt, plain)?;
+    print_number(rt, weighted)
 }

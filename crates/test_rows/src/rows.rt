@@ -18,7 +18,7 @@ pub fn line_end(input: &[u8], at: usize) -> usize
 }
 
 // `next` is where the field behind it starts.
-#[derive(Drop)]
+#[derive(Clone, Copy)]
 pub struct Field {
     pub value: u32,
     pub next: usize,
@@ -55,7 +55,7 @@ pub fn field_at(line: &[u8], at: usize) -> Field {
 
 // The first letter of a row's word and the row's numbers in their order; where the text behind the word starts, that behind the first number,
 // and where the words behind a list and a place.
-#[derive(Drop)]
+#[derive(Clone, Copy)]
 pub struct Row {
     pub word: u8,
     pub n1: u32,

@@ -5,6 +5,7 @@
 #![tactic(auto)]
 
 use model::{Counts, Node, RunAnswer};
+use std::io;
 
 // A difference that is not below 0.
 fn minus(a: u64, b: u64) -> u64 {
@@ -28,67 +29,68 @@ fn wide(word: u32) -> u64 {
     word as u64
 }
 
-fn print_number(number: u64) {
-    io::write_all(1, b",");
-    io::print_decimal(1, number);
+fn print_number(rt: &impl Print, number: u64) -> io::Result<()> {
+    rt.write_all(b",")?;
+    rt.print(number)
 }
 
 // A count, its bound, and the share of it in thousandths; none where the bound is 0.
-fn print_share(count: u32, most: u64) {
-    print_number(wide(count));
-    print_number(most);
+fn print_share(rt: &impl Print, count: u32, most: u64) -> io::Result<()> {
+    print_number(rt, wide(count))?;
+    print_number(rt, most)?;
     if most == 0 {
-        io::write_all(1, b",-");
+        rt.write_all(b",-")?;
     } else {
-        print_number(times(wide(count), 1000) / most);
+        print_number(rt, times(wide(count), 1000) / most)?;
     }
+    Ok(())
 }
 
 // The counts of an accepted run beside m - r + 1, r × B + m - r + 1, r × (B + segments) and r × (B - 1) + 2 × placements, the last by
 // document 02, paper 3.
-fn print_shares(arcs: u64, segments: u32, reached: u32, buckets: u32, counts: Counts) {
+fn print_shares(rt: &impl Print, arcs: u64, segments: u32, reached: u32, buckets: u32, counts: Counts) -> io::Result<()> {
     let spare = minus(plus(arcs, 1), wide(reached));
-    print_number(wide(reached));
-    print_number(arcs);
-    print_number(wide(buckets));
-    print_number(wide(segments));
-    print_share(counts.decreases, spare);
+    print_number(rt, wide(reached))?;
+    print_number(rt, arcs)?;
+    print_number(rt, wide(buckets))?;
+    print_number(rt, wide(segments))?;
+    print_share(rt, counts.decreases, spare)?;
     let held = times(wide(reached), wide(buckets));
-    print_share(counts.placements, plus(held, spare));
+    print_share(rt, counts.placements, plus(held, spare))?;
     print_share(
+        rt,
         counts.looks,
         plus(held, times(wide(reached), wide(segments))),
-    );
+    )?;
     let twice = times(2, wide(counts.placements));
-    print_share(counts.reads, plus(minus(held, wide(reached)), twice));
+    print_share(rt, counts.reads, plus(minus(held, wide(reached)), twice))
 }
 
-fn print_run(name: &[u8], heap: &[u8], arcs: u64, segments: u32, answer: RunAnswer) {
-    io::write_all(1, name);
-    io::write_all(1, heap);
+fn print_run(rt: &impl Print, name: &[u8], heap: &[u8], arcs: u64, segments: u32, answer: RunAnswer) -> io::Result<()> {
+    rt.write_all(name)?;
+    rt.write_all(heap)?;
     match answer {
         RunAnswer::Accepted {
             reached,
             buckets,
             counts,
-        } => print_shares(arcs, segments, reached, buckets, counts),
+        } => print_shares(rt, arcs, segments, reached, buckets, counts)?,
         RunAnswer::Refused { number, place } => {
-            print_number(wide(number));
-            print_number(place as u64);
+            print_number(rt, wide(number))?;
+            print_number(rt, place as u64)?;
         }
     }
-    io::write_all(1, b"\n");
+    rt.write_all(b"\n")
 }
 
-fn run_one_level(
-    name: &[u8],
+fn run_one_level(rt: &impl Print, name: &[u8],
     n: u32,
     ceiling: u32,
     starts: &[u32],
     heads: &[u32],
     costs: &[u32],
     holds: &[u32],
-) {
+) -> io::Result<()> {
     let mut distances = [0u32; 4096];
     let mut parents = [0u32; 4096];
     let mut roster = [0u32; 4096];
@@ -106,11 +108,10 @@ fn run_one_level(
         &mut roster,
         &mut work,
     );
-    print_run(name, b",one", heads.len() as u64, 0, answer);
+    print_run(rt, name, b",one", heads.len() as u64, 0, answer)
 }
 
-fn run_two_level(
-    name: &[u8],
+fn run_two_level(rt: &impl Print, name: &[u8],
     n: u32,
     ceiling: u32,
     segments: u32,
@@ -118,7 +119,7 @@ fn run_two_level(
     heads: &[u32],
     costs: &[u32],
     holds: &[u32],
-) {
+) -> io::Result<()> {
     let mut distances = [0u32; 4096];
     let mut parents = [0u32; 4096];
     let mut roster = [0u32; 4096];
@@ -137,11 +138,10 @@ fn run_two_level(
         &mut roster,
         &mut work,
     );
-    print_run(name, b",two", heads.len() as u64, segments, answer);
+    print_run(rt, name, b",two", heads.len() as u64, segments, answer)
 }
 
-fn run_both(
-    name: &[u8],
+fn run_both(rt: &impl Print, name: &[u8],
     n: u32,
     ceiling: u32,
     segments: u32,
@@ -149,9 +149,9 @@ fn run_both(
     heads: &[u32],
     costs: &[u32],
     holds: &[u32],
-) {
-    run_one_level(name, n, ceiling, starts, heads, costs, holds);
-    run_two_level(name, n, ceiling, segments, starts, heads, costs, holds);
+) -> io::Result<()> {
+    run_one_level(rt, name, n, ceiling, starts, heads, costs, holds)?;
+    run_two_level(rt, name, n, ceiling, segments, starts, heads, costs, holds)
 }
 
 // The words first, first + 1, first + 2 and so on.
@@ -195,8 +195,8 @@ fn over(a: u32, b: u32) -> u32 {
 }
 
 // One arc of cost C leads to node 1, and from there one to each other node, all of the same distance but a few. Those few are the least of
-// each bucket in turn, so that with each of them all others fall one bucket. Here by the sizes of the one_level_lem heap.
-fn fall_by_halves() {
+// each bucket in turn, so that with each of them all others fall one bucket. Here by the sizes of the one-level heap.
+fn fall_by_halves(rt: &impl Print) -> io::Result<()> {
     let mut starts = [4095u32; 4097];
     starts[0] = 0;
     starts[1] = 1;
@@ -206,6 +206,7 @@ fn fall_by_halves() {
     approach(&mut costs, 1, 1048577, 1048576, 2);
     let holds = [0u32; 4096];
     run_both(
+        rt,
         b"falling through buckets of one level",
         4096,
         1048575,
@@ -214,11 +215,11 @@ fn fall_by_halves() {
         &heads,
         &costs,
         &holds,
-    );
+    )
 }
 
-// The same by the sizes of the two_level_lem heap with K = 32, whose segment of the last bucket but one is 32,768 keys wide.
-fn fall_by_segments() {
+// The same by the sizes of the two-level heap with K = 32, whose segment of the last bucket but one is 32,768 keys wide.
+fn fall_by_segments(rt: &impl Print) -> io::Result<()> {
     let mut starts = [4095u32; 4097];
     starts[0] = 0;
     starts[1] = 1;
@@ -230,6 +231,7 @@ fn fall_by_segments() {
     costs[1] = 33825;
     let holds = [0u32; 4096];
     run_both(
+        rt,
         b"falling through buckets of two levels",
         4096,
         1048575,
@@ -238,11 +240,11 @@ fn fall_by_segments() {
         &heads,
         &costs,
         &holds,
-    );
+    )
 }
 
 // A chain of arcs of cost C: each key is found in one of the last two buckets.
-fn look_at_every_bucket() {
+fn look_at_every_bucket(rt: &impl Print) -> io::Result<()> {
     let mut starts = [0u32; 4097];
     count_up(&mut starts, 0);
     starts[4096] = 4095;
@@ -251,6 +253,7 @@ fn look_at_every_bucket() {
     let costs = [1048575u32; 4095];
     let holds = [0u32; 4096];
     run_both(
+        rt,
         b"looks at every bucket",
         4096,
         1048575,
@@ -259,11 +262,11 @@ fn look_at_every_bucket() {
         &heads,
         &costs,
         &holds,
-    );
+    )
 }
 
 // A star of equal arcs: each key is found in the last segment of bucket 1.
-fn look_at_every_segment() {
+fn look_at_every_segment(rt: &impl Print) -> io::Result<()> {
     let mut starts = [4095u32; 4097];
     starts[0] = 0;
     let mut heads = [0u32; 4095];
@@ -271,6 +274,7 @@ fn look_at_every_segment() {
     let costs = [63u32; 4095];
     let holds = [0u32; 4096];
     run_both(
+        rt,
         b"looks at every segment",
         4096,
         63,
@@ -279,10 +283,10 @@ fn look_at_every_segment() {
         &heads,
         &costs,
         &holds,
-    );
+    )
 }
 
-#[derive(Drop)]
+#[derive(Clone, Copy)]
 struct Pair {
     tail: u32,
     head: u32,
@@ -329,7 +333,7 @@ fn pair_up(starts: &mut [u32], heads: &mut [u32], costs: &mut [u32]) {
     }
 }
 
-fn decrease_at_every_arc() {
+fn decrease_at_every_arc(rt: &impl Print) -> io::Result<()> {
     let mut starts = [0u32; 363];
     let mut heads = [0u32; 65341];
     let mut costs = [0u32; 65341];
@@ -338,6 +342,7 @@ fn decrease_at_every_arc() {
     starts[362] = 65341;
     let holds = [0u32; 362];
     run_both(
+        rt,
         b"every arc a decrease",
         362,
         721000,
@@ -346,18 +351,15 @@ fn decrease_at_every_arc() {
         &heads,
         &costs,
         &holds,
-    );
+    )
 }
 
-fn main() {
-    io::write_all(1, b"map,heap,r,m,B,segments");
-    io::write_all(
-        1,
-        b",decreases,bound,share,placements,bound,share,looks,bound,share,reads,bound,share\n",
-    );
-    fall_by_halves();
-    fall_by_segments();
-    decrease_at_every_arc();
-    look_at_every_bucket();
-    look_at_every_segment();
+fn main(rt: HostRuntime) -> io::Result<()> {
+    rt.write_all(b"map,heap,r,m,B,segments")?;
+    rt.write_all(b",decreases,bound,share,placements,bound,share,looks,bound,share,reads,bound,share\n")?;
+    fall_by_halves(&rt)?;
+    fall_by_segments(&rt)?;
+    decrease_at_every_arc(&rt)?;
+    look_at_every_bucket(&rt)?;
+    look_at_every_segment(&rt)
 }

@@ -8,6 +8,7 @@ use families::{EDGES, FEW_HEADS, LARGE, SEGMENTS};
 use test_generated::{maps, tallies};
 use test_reference_map::nodes::Table;
 use test_reference_map::words;
+use std::io;
 
 mod beside;
 mod edges;
@@ -26,32 +27,33 @@ fn try_family(family: u32, found: &mut Table) -> u64 {
     differences
 }
 
-fn print_family(family: u32, name: &[u8], found: &mut Table) {
+fn print_family(rt: &impl Print, family: u32, name: &[u8], found: &mut Table) -> io::Result<()> {
     let differences = try_family(family, found);
-    io::write_all(1, name);
-    tallies::print_found(families::count(family) as u64, differences);
+    rt.write_all(name)?;
+    tallies::print_found(rt, families::count(family) as u64, differences)
 }
 
-fn main() {
+fn main(rt: HostRuntime) -> io::Result<()> {
     let mut found = [0u64; 49152];
-    print_family(maps::RANDOM, b"random", &mut found);
-    print_family(maps::GRID, b"grids", &mut found);
-    print_family(maps::CHAIN, b"chains", &mut found);
-    print_family(maps::EQUAL_STAR, b"stars of equal arcs", &mut found);
-    print_family(maps::DISTINCT_STAR, b"stars of distinct arcs", &mut found);
-    print_family(maps::ZERO_COSTS, b"zero costs", &mut found);
-    print_family(maps::TWO_PARTS, b"two parts", &mut found);
+    print_family(&rt, maps::RANDOM, b"random", &mut found)?;
+    print_family(&rt, maps::GRID, b"grids", &mut found)?;
+    print_family(&rt, maps::CHAIN, b"chains", &mut found)?;
+    print_family(&rt, maps::EQUAL_STAR, b"stars of equal arcs", &mut found)?;
+    print_family(&rt, maps::DISTINCT_STAR, b"stars of distinct arcs", &mut found)?;
+    print_family(&rt, maps::ZERO_COSTS, b"zero costs", &mut found)?;
+    print_family(&rt, maps::TWO_PARTS, b"two parts", &mut found)?;
     print_family(
+        &rt,
         maps::LOOPS_AND_PARALLELS,
         b"self-loops and parallel arcs",
         &mut found,
-    );
-    print_family(maps::ALL_DECREASES, b"every arc a decrease", &mut found);
-    print_family(maps::NO_ARCS, b"m = 0", &mut found);
-    print_family(maps::SAME_DEGREE, b"equal numbers of arcs", &mut found);
-    print_family(FEW_HEADS, b"many arcs to few nodes", &mut found);
-    print_family(SEGMENTS, b"K = 2 to 64", &mut found);
-    print_family(LARGE, b"up to 1024 nodes and 4096 arcs", &mut found);
-    print_family(EDGES, b"at the edges of refusals", &mut found);
-    tallies::print(&found);
+    )?;
+    print_family(&rt, maps::ALL_DECREASES, b"every arc a decrease", &mut found)?;
+    print_family(&rt, maps::NO_ARCS, b"m = 0", &mut found)?;
+    print_family(&rt, maps::SAME_DEGREE, b"equal numbers of arcs", &mut found)?;
+    print_family(&rt, FEW_HEADS, b"many arcs to few nodes", &mut found)?;
+    print_family(&rt, SEGMENTS, b"K = 2 to 64", &mut found)?;
+    print_family(&rt, LARGE, b"up to 1024 nodes and 4096 arcs", &mut found)?;
+    print_family(&rt, EDGES, b"at the edges of refusals", &mut found)?;
+    tallies::print(&rt, &found)
 }

@@ -7,6 +7,7 @@
 use test_generated::tallies;
 use test_reference_map::nodes::Table;
 use test_reference_map::words;
+use std::io;
 
 mod expected;
 mod families;
@@ -27,32 +28,35 @@ fn try_family(family: u32, found: &mut Table) -> u64 {
     differences
 }
 
-fn print_family(family: u32, name: &[u8], found: &mut Table) {
+fn print_family(rt: &impl Print, family: u32, name: &[u8], found: &mut Table) -> io::Result<()> {
     let differences = try_family(family, found);
-    io::write_all(1, name);
-    tallies::print_found(families::count(family) as u64, differences);
+    rt.write_all(name)?;
+    tallies::print_found(rt, families::count(family) as u64, differences)
 }
 
-fn main() {
+fn main(rt: HostRuntime) -> io::Result<()> {
     let mut found = [0u64; 49152];
-    print_family(families::WHOLE, b"planning files", &mut found);
-    print_family(families::DAMAGED, b"damaged planning files", &mut found);
-    tallies::print(&found);
+    print_family(&rt, families::WHOLE, b"planning files", &mut found)?;
+    print_family(&rt, families::DAMAGED, b"damaged planning files", &mut found)?;
+    tallies::print(&rt, &found)?;
     let mut found = [0u64; 49152];
     print_family(
+        &rt,
         families::WITH_HOLDS,
         b"planning files with holds",
         &mut found,
-    );
+    )?;
     print_family(
+        &rt,
         families::SUMS_AT_EDGE,
         b"planning files with sums at an edge",
         &mut found,
-    );
+    )?;
     print_family(
+        &rt,
         families::DAMAGED_WITH_HOLDS,
         b"damaged planning files with holds",
         &mut found,
-    );
-    tallies::print(&found);
+    )?;
+    tallies::print(&rt, &found)
 }

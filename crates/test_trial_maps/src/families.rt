@@ -5,6 +5,7 @@ use test_generated::{edges, holds, lists, maps, random};
 use test_reference_map::case::Case;
 use test_reference_map::map::Lists;
 use test_reference_map::words;
+use std::io;
 
 pub const RANDOM: u32 = 0;
 
@@ -88,37 +89,41 @@ pub fn rule_of(i: u32) -> u32 {
 }
 
 // One of several names that stand one behind the other, each ended by a bar.
-fn print_nth(number: u32, names: &[u8]) {
+fn print_nth(rt: &impl Print, number: u32, names: &[u8]) -> io::Result<()> {
     let mut ended = 0;
     let mut i = 0;
     while i < names.len() {
         if names[i] == b'|' {
             ended = std::num::wrapping_add_u32(ended, 1);
         } else {
-            print_if(ended == number, names[i]);
+            print_if(rt, ended == number, names[i])?;
         }
         i += 1;
     }
+    Ok(())
 }
 
-fn print_if(wanted: bool, byte: u8) {
+fn print_if(rt: &impl Print, wanted: bool, byte: u8) -> io::Result<()> {
     let bytes = [byte; 1];
     if wanted {
-        io::write_all(1, &bytes);
+        rt.write_all(&bytes)?;
     }
+    Ok(())
 }
 
-pub fn print_name(family: u32) {
+pub fn print_name(rt: &impl Print, family: u32) -> io::Result<()> {
     if family < 10 {
         print_nth(
+        rt,
             family,
             b"random|grids|chains to the last bucket|stars of equal arcs|stars of distinct arcs|zero costs|two parts|self-loops and parallel arcs|every arc a decrease|n = 1|",
-        );
+        )
     } else {
         print_nth(
+        rt,
             family - 10,
             b"m = 0|C = 0 1 7 8 1048575|K = 2 to 64|n = 4096|m = 65536|routes over damaged parents|runs at the edges of refusals|routes at the edges of refusals|",
-        );
+        )
     }
 }
 

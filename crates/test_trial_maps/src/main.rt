@@ -9,6 +9,7 @@ use test_generated::tallies::Found;
 use test_generated::{holds, tallies};
 use test_reference_map::nodes::Table;
 use test_reference_map::words;
+use std::io;
 
 mod beside;
 mod damaged;
@@ -83,24 +84,25 @@ fn try_holds(family: u32, found: &mut Table) -> u64 {
     differences
 }
 
-fn try_families(found: &mut Table) {
+fn try_families(rt: &impl Print, found: &mut Table) -> io::Result<()> {
     let mut family = 0;
     while family < families::FAMILIES {
         let differences = try_family(family, found);
-        families::print_name(family);
-        tallies::print_found(families::count(family) as u64, differences);
+        families::print_name(rt, family)?;
+        tallies::print_found(rt, families::count(family) as u64, differences)?;
         if family < families::DAMAGED_PARENTS {
             let differences = try_holds(family, found);
-            families::print_name(family);
-            io::write_all(1, b" with holds");
-            tallies::print_found(families::count_with_holds(family) as u64, differences);
+            families::print_name(rt, family)?;
+            rt.write_all(b" with holds")?;
+            tallies::print_found(rt, families::count_with_holds(family) as u64, differences)?;
         }
         family += 1;
     }
+    Ok(())
 }
 
-fn main() {
+fn main(rt: HostRuntime) -> io::Result<()> {
     let mut found = [0u64; 49152];
-    try_families(&mut found);
-    tallies::print(&found);
+    try_families(&rt, &mut found)?;
+    tallies::print(&rt, &found)
 }

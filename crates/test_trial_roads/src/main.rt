@@ -6,10 +6,11 @@
 
 use test_generated::tallies;
 use test_reference_map::words;
+use std::io;
 
 mod trial;
 
-fn try_family(name: &[u8], whole: bool, count: u32) {
+fn try_family(rt: &impl Print, name: &[u8], whole: bool, count: u32) -> io::Result<()> {
     let mut found = [0u64; 49152];
     let mut differences = 0;
     let mut number = 0;
@@ -18,12 +19,12 @@ fn try_family(name: &[u8], whole: bool, count: u32) {
         differences = words::sum(differences, more);
         number += 1;
     }
-    io::write_all(1, name);
-    tallies::print_found(count as u64, differences);
-    tallies::print_below(&found, 20);
+    rt.write_all(name)?;
+    tallies::print_found(rt, count as u64, differences)?;
+    tallies::print_below(rt, &found, 20)
 }
 
-fn main() {
-    try_family(b"road files", true, 1000);
-    try_family(b"damaged road files", false, 6000);
+fn main(rt: HostRuntime) -> io::Result<()> {
+    try_family(&rt, b"road files", true, 1000)?;
+    try_family(&rt, b"damaged road files", false, 6000)
 }

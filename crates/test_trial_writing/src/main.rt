@@ -8,6 +8,7 @@ use families::{EDGES, LARGE, WITH_HOLDS};
 use test_generated::{maps, tallies};
 use test_reference_map::nodes::Table;
 use test_reference_map::words;
+use std::io;
 
 mod families;
 mod read_back;
@@ -24,38 +25,39 @@ fn try_family(family: u32, found: &mut Table) -> u64 {
     differences
 }
 
-fn print_family(family: u32, name: &[u8], behind: &[u8], found: &mut Table) {
+fn print_family(rt: &impl Print, family: u32, name: &[u8], behind: &[u8], found: &mut Table) -> io::Result<()> {
     let differences = try_family(family, found);
-    io::write_all(1, name);
-    io::write_all(1, behind);
-    tallies::print_found(families::count(family) as u64, differences);
+    rt.write_all(name)?;
+    rt.write_all(behind)?;
+    tallies::print_found(rt, families::count(family) as u64, differences)
 }
 
 // The maps of a rule, without holds, then with.
-fn print_rule(rule: u32, name: &[u8], found: &mut Table) {
-    print_family(rule, name, b"", found);
+fn print_rule(rt: &impl Print, rule: u32, name: &[u8], found: &mut Table) -> io::Result<()> {
+    print_family(rt, rule, name, b"", found)?;
     let held = std::num::wrapping_add_u32(rule, WITH_HOLDS);
-    print_family(held, name, b" with holds", found);
+    print_family(rt, held, name, b" with holds", found)
 }
 
-fn main() {
+fn main(rt: HostRuntime) -> io::Result<()> {
     let mut found = [0u64; 49152];
-    print_rule(maps::RANDOM, b"random", &mut found);
-    print_rule(maps::GRID, b"grids", &mut found);
-    print_rule(maps::CHAIN, b"chains", &mut found);
-    print_rule(maps::EQUAL_STAR, b"stars of equal arcs", &mut found);
-    print_rule(maps::DISTINCT_STAR, b"stars of distinct arcs", &mut found);
-    print_rule(maps::ZERO_COSTS, b"zero costs", &mut found);
-    print_rule(maps::TWO_PARTS, b"two parts", &mut found);
+    print_rule(&rt, maps::RANDOM, b"random", &mut found)?;
+    print_rule(&rt, maps::GRID, b"grids", &mut found)?;
+    print_rule(&rt, maps::CHAIN, b"chains", &mut found)?;
+    print_rule(&rt, maps::EQUAL_STAR, b"stars of equal arcs", &mut found)?;
+    print_rule(&rt, maps::DISTINCT_STAR, b"stars of distinct arcs", &mut found)?;
+    print_rule(&rt, maps::ZERO_COSTS, b"zero costs", &mut found)?;
+    print_rule(&rt, maps::TWO_PARTS, b"two parts", &mut found)?;
     print_rule(
+        &rt,
         maps::LOOPS_AND_PARALLELS,
         b"self-loops and parallel arcs",
         &mut found,
-    );
-    print_rule(maps::ALL_DECREASES, b"every arc a decrease", &mut found);
-    print_rule(maps::NO_ARCS, b"m = 0", &mut found);
-    print_rule(maps::SAME_DEGREE, b"equal numbers of arcs", &mut found);
-    print_family(LARGE, b"up to 4096 nodes and 65536 arcs", b"", &mut found);
-    print_family(EDGES, b"at the edges of refusals", b"", &mut found);
-    tallies::print(&found);
+    )?;
+    print_rule(&rt, maps::ALL_DECREASES, b"every arc a decrease", &mut found)?;
+    print_rule(&rt, maps::NO_ARCS, b"m = 0", &mut found)?;
+    print_rule(&rt, maps::SAME_DEGREE, b"equal numbers of arcs", &mut found)?;
+    print_family(&rt, LARGE, b"up to 4096 nodes and 65536 arcs", b"", &mut found)?;
+    print_family(&rt, EDGES, b"at the edges of refusals", b"", &mut found)?;
+    tallies::print(&rt, &found)
 }

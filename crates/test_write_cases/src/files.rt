@@ -7,9 +7,10 @@ use reader::PlanAnswer;
 use test_rows::map::part;
 use test_rows::rows::Row;
 use writer::WriteAnswer;
+use std::io;
 
 // What a file or a row tells beside the lists.
-#[derive(Drop)]
+#[derive(Clone, Copy)]
 struct Told {
     nodes: u32,
     arcs: u32,
@@ -73,7 +74,7 @@ fn write_plan(
 }
 
 // Row: again BYTES
-pub fn write_again(row: Row, file: &[u8]) {
+pub fn write_again(rt: &impl Print, row: Row, file: &[u8]) -> io::Result<()> {
     let mut starts = [1000003u32; 65];
     let mut heads = [2000003u32; 128];
     let mut costs = [3000017u32; 128];
@@ -82,7 +83,7 @@ pub fn write_again(row: Row, file: &[u8]) {
     test_buffers::fill(&mut buffer);
     let read = reader::read(file, &mut starts, &mut heads, &mut costs, &mut holds);
     let answer = write_plan(read, row.n1, &starts, &heads, &costs, &holds, &mut buffer);
-    print_text(answer, &buffer);
+    print_text(rt, answer, &buffer)
 }
 
 // The same of a road file, with C, source, K and the bytes lent of the row.
@@ -112,7 +113,7 @@ fn write_roads(
 }
 
 // Row: road C,SOURCE,K BYTES
-pub fn write_road(row: Row, file: &[u8]) {
+pub fn write_road(rt: &impl Print, row: Row, file: &[u8]) -> io::Result<()> {
     let mut starts = [1000003u32; 65];
     let mut heads = [2000003u32; 128];
     let mut costs = [3000017u32; 128];
@@ -120,5 +121,5 @@ pub fn write_road(row: Row, file: &[u8]) {
     test_buffers::fill(&mut buffer);
     let read = dimacs::read(file, row.n1, &mut starts, &mut heads, &mut costs);
     let answer = write_roads(read, row, &starts, &heads, &costs, &mut buffer);
-    print_text(answer, &buffer);
+    print_text(rt, answer, &buffer)
 }

@@ -4,6 +4,7 @@ use model::Node;
 use test_rows::map::{COSTS, HEADS, HOLDS, part};
 use test_rows::rows::Row;
 use writer::WriteAnswer;
+use std::io;
 
 fn write(row: Row, map: &[u32], buffer: &mut [u8]) -> WriteAnswer {
     test_buffers::fill(buffer);
@@ -21,20 +22,20 @@ fn write(row: Row, map: &[u32], buffer: &mut [u8]) -> WriteAnswer {
 }
 
 // Row: text N,C,SOURCE,K STARTS,HEADS,COSTS,HOLDS BYTES
-pub fn write_text(row: Row, map: &[u32]) {
+pub fn write_text(rt: &impl Print, row: Row, map: &[u32]) -> io::Result<()> {
     let mut buffer = [0u8; 1024];
     let answer = write(row, map, &mut buffer);
-    print_text(answer, &buffer);
+    print_text(rt, answer, &buffer)
 }
 
 // An array of this size is lent whole, so that its length needs no proof.
-fn write_sums(row: Row, map: &[u32], buffer: &mut [u8; 1213000]) {
+fn write_sums(rt: &impl Print, row: Row, map: &[u32], buffer: &mut [u8; 1213000]) -> io::Result<()> {
     let answer = write(row, map, buffer);
-    print_sums(answer, buffer);
+    print_sums(rt, answer, buffer)
 }
 
 // Row: sums N,C,SOURCE,K STARTS,HEADS,COSTS,HOLDS BYTES
-pub fn write_large(row: Row, map: &[u32]) {
+pub fn write_large(rt: &impl Print, row: Row, map: &[u32]) -> io::Result<()> {
     let mut buffer = [0u8; 1213000];
-    write_sums(row, map, &mut buffer);
+    write_sums(rt, row, map, &mut buffer)
 }

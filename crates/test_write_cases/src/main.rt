@@ -4,49 +4,51 @@
 
 use test_rows::map::Map;
 use test_rows::{bytes, map, rows};
+use std::io;
 
 mod files;
 mod lists;
 mod printing;
 
 // One row, told by the first letter of its word; gives back how many bytes the file that is being made then has.
-fn act(line: &[u8], map: &mut Map, file: &mut [u8; 1024], made: usize) -> usize {
-    test_rows::printing::print_line(line);
+fn act(rt: &impl Print, line: &[u8], map: &mut Map, file: &mut [u8; 1024], made: usize) -> io::Result<usize> {
+    test_rows::printing::print_line(rt, line)?;
     let row = rows::row_of(line);
     let word = row.word;
     match word {
         b'w' => map::put_words(map, row, line),
         b'f' | b'd' => map::spread(map, row),
-        b't' => lists::write_text(row, map),
-        b's' => lists::write_large(row, map),
-        b'a' => files::write_again(row, bytes::made(file, made)),
-        b'r' => files::write_road(row, bytes::made(file, made)),
+        b't' => lists::write_text(rt, row, map)?,
+        b's' => lists::write_large(rt, row, map)?,
+        b'a' => files::write_again(rt, row, bytes::made(file, made))?,
+        b'r' => files::write_road(rt, row, bytes::made(file, made))?,
         _ => (),
     }
-    match word {
+    Ok(match word {
         b'l' => bytes::append_line(file, made, line, row.text),
         b'a' | b'r' => 0,
         _ => made,
-    }
+    })
 }
 
-fn act_all(input: &[u8]) {
+fn act_all(rt: &impl Print, input: &[u8]) -> io::Result<()> {
     let mut map = [0u32; 143368];
     let mut file = [0u8; 1024];
     let mut at = 0;
     let mut made = 0;
     while at < input.len() {
         let end = rows::line_end(input, at);
-        made = act(&input[at..end], &mut map, &mut file, made);
+        made = act(rt, &input[at..end], &mut map, &mut file, made)?;
         if end == input.len() {
-            return;
+            return Ok(());
         }
         at = end + 1;
     }
+    Ok(())
 }
 
-fn main() {
-    let mut input = io::large_buffer();
-    let got = io::read_full(0, &mut input);
-    act_all(&input[..got]);
+fn main(rt: HostRuntime) -> io::Result<()> {
+    let mut input = [0u8; 65536];
+    let got = streams::read_full(&rt, &mut input)?;
+    act_all(&rt, &input[..got])
 }

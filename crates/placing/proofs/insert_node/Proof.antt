@@ -29,7 +29,7 @@ bucket-of-requires c κs = let s : tie.Start = search rules in fresh_read s.pre.
 enter-requires : tie.Need-enter-requires
 enter-requires c κs =
     let b : tie.After-bucket-of = search rules in
-    fresh_entering (start b).pre.0.labels (start b).pre.1 b.bucket_of_lem.ensures
+    fresh_entering (start b).pre.0.labels (start b).pre.1 b.bucket_of.ensures
 
 current-low : (c : tie.After-enter) → (start (found c)).args.state.current + c.enter.result ≤ 4097
 current-low c = omega (arith, current_few (start (found c)).requires.0.labels, entered_low c.enter.ensures)
@@ -39,7 +39,7 @@ read-requires c κs =
     let e : tie.After-enter = search rules in
     let t : tie.After-inserted = search rules in
     let b = found e in
-    omega (arith, same_reads t.inserted.ensures, read_few (start b).pre.0.labels (le_refl _) b.bucket_of_lem.ensures.1)
+    omega (arith, same_reads t.inserted.ensures, read_few (start b).pre.0.labels (le_refl _) b.bucket_of.ensures.1)
 
 returns : tie.Need-returns
 returns c =
@@ -49,8 +49,8 @@ returns c =
     let b = found e in
     let s = start b in (
       λ X before roster h L.
-          fresh_stands L s.pre.1 b.bucket_of_lem.ensures e.enter.ensures s.args.arc.0 refl refl refl
-          (r.read.ensures ∙ ap (after_event (reads b.bucket_of_lem.result.reads)) t.inserted.ensures),
+          fresh_stands L s.pre.1 b.bucket_of.ensures e.enter.ensures s.args.arc.0 refl refl refl
+          (r.read.ensures ∙ ap (after_event (reads b.bucket_of.result.reads)) t.inserted.ensures),
       refl,
     )
 

@@ -65,7 +65,7 @@ shared-slice-read-key : tie.Need-shared-slice-read-key
 shared-slice-read-key c =
     let f : tie.After-least = search rules in
     let p = (start (in_bucket (in_segment_lem f))).requires in
-    omega (arith, f.least.ensures.in_slot_lem.0, distances_long p.0.rests p.1)
+    omega (arith, f.least.ensures.in_slot.0, distances_long p.0.rests p.1)
 
 scan-slot-requires : tie.Need-scan-slot-requires
 scan-slot-requires c κs =
@@ -73,7 +73,7 @@ scan-slot-requires c κs =
     let g = in_segment_lem f in
     let p = (start (in_bucket g)).requires in (
       p.0.rests.stands.frontier,
-      (f.least.ensures.in_slot_lem.0, held p.0.rests p.1 (in_bucket g).lowest-bucket.ensures g.lowest-segment.ensures f.least.ensures),
+      (f.least.ensures.in_slot.0, held p.0.rests p.1 (in_bucket g).lowest-bucket.ensures g.lowest-segment.ensures f.least.ensures),
     )
 
 renew-bounds-requires : tie.Need-renew-bounds-requires
@@ -89,7 +89,7 @@ slice-write-roster c =
     let r : tie.After-renew-bounds = search rules in
     let f = chosen (left r) in
     let R = (start (in_bucket (in_segment_lem f))).requires.0.rests in
-    omega (arith, reached_low R, roster_long R, f.least.ensures.in_slot_lem.0)
+    omega (arith, reached_low R, roster_long R, f.least.ensures.in_slot.0)
 
 looks-of-requires : tie.Need-looks-of-requires
 looks-of-requires c κs =

@@ -22,14 +22,14 @@ steps-requires : tie.Need-steps-requires
 steps-requires c κs =
     let z : tie.After-one-level-sizes = search rules in
     let b = counted z in
-    record { levels = one; built = ready_built (start b).pre b.one_level_buckets_lem.ensures z.one-level-sizes.ensures }
+    record { levels = one; built = ready_built (start b).pre b.one_level_buckets.ensures z.one-level-sizes.ensures }
 
 returns : tie.Need-returns
 returns c =
     let left : tie.After-steps = search rules in
     let z = sizes left in
     let b = counted z in
-    left.steps.ensures one (ready_built (start b).pre b.one_level_buckets_lem.ensures z.one-level-sizes.ensures)
+    left.steps.ensures one (ready_built (start b).pre b.one_level_buckets.ensures z.one-level-sizes.ensures)
 
 pub one-level-steps-spec : {M : Type 1} → statement M
 one-level-steps-spec =

@@ -22,14 +22,14 @@ steps-requires : tie.Need-steps-requires
 steps-requires c κs =
     let z : tie.After-two-level-sizes = search rules in
     let b = counted z in
-    record { levels = two _; built = ready_built (start b).pre b.two_level_buckets_lem.ensures z.two-level-sizes.ensures }
+    record { levels = two _; built = ready_built (start b).pre b.two_level_buckets.ensures z.two-level-sizes.ensures }
 
 returns : tie.Need-returns
 returns c =
     let left : tie.After-steps = search rules in
     let z = sizes left in
     let b = counted z in
-    left.steps.ensures (two _) (ready_built (start b).pre b.two_level_buckets_lem.ensures z.two-level-sizes.ensures)
+    left.steps.ensures (two _) (ready_built (start b).pre b.two_level_buckets.ensures z.two-level-sizes.ensures)
 
 pub two-level-steps-spec : {M : Type 1} → statement M
 two-level-steps-spec =

@@ -45,7 +45,7 @@ returns c =
 enter-requires : tie.Need-enter-requires
 enter-requires c κs =
     let b : tie.After-bucket-of = search rules in
-    rw b.bucket_of_lem.ensures.0 (start (above b)).requires.entering
+    rw b.bucket_of.ensures.0 (start (above b)).requires.entering
 
 current_few : (e : tie.After-enter) → (start (above (found e))).args.state.current + e.enter.result ≤ 4097
 current_few e = omega (arith, (start (above (found e))).requires.current_few, entered_low e.enter.ensures)
@@ -55,7 +55,7 @@ read-requires c κs =
     let e : tie.After-enter = search rules in
     let t : tie.After-shifted = search rules in
     let b = found e in
-    omega (arith, same_reads t.shifted.ensures, b.bucket_of_lem.ensures.1, (start (above b)).requires.reads_few (omega (arith, (above b).if1.left)))
+    omega (arith, same_reads t.shifted.ensures, b.bucket_of.ensures.1, (start (above b)).requires.reads_few (omega (arith, (above b).if1.left)))
 
 returns-2 : tie.Need-returns-2
 returns-2 c =
@@ -65,12 +65,12 @@ returns-2 c =
     let b = found e in
     record {
       counted = e.enter.result;
-      entered = rw b.bucket_of_lem.ensures.0 at e.enter.ensures;
+      entered = rw b.bucket_of.ensures.0 at e.enter.ensures;
       front = refl;
       current = refl;
       reached = refl;
-      tally = rw (lt-ltb 1 (start (above b)).args.bucket (omega (arith, (above b).if1.left)), ← b.bucket_of_lem.ensures.1)
-          (r.read.ensures ∙ ap (after_event (reads b.bucket_of_lem.result.reads)) t.shifted.ensures);
+      tally = rw (lt-ltb 1 (start (above b)).args.bucket (omega (arith, (above b).if1.left)), ← b.bucket_of.ensures.1)
+          (r.read.ensures ∙ ap (after_event (reads b.bucket_of.result.reads)) t.shifted.ensures);
     }
 
 pub move-node-spec : {M : Type 1} → statement M

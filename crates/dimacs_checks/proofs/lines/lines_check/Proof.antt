@@ -44,7 +44,7 @@ add_read : tie.Need-overflow-add-read invariant-loop decreases-loop
 add_read c =
     let a : tie.After-line-at invariant-loop decreases-loop = search rules in
     let I = (inside a).before.loop.inv in
-    omega (arith, I.few, I.passed, (inside a).loop-test.taken, c.arcs_in_lem.ensures, one_arc_lem a.line_at.result)
+    omega (arith, I.few, I.passed, (inside a).loop-test.taken, c.arcs_in.ensures, one_arc_lem a.line_at.result)
 
 loop-less : tie.Need-loop-smaller invariant-loop decreases-loop
 loop-less c =
@@ -58,7 +58,7 @@ loop-again : tie.Need-loop-preserved invariant-loop decreases-loop
 loop-again c =
     let t : tie.After-taken-by invariant-loop decreases-loop = search rules in
     let a = asked (checked t) in
-    rw (t.taken-by.ensures, c.arcs_in_lem.ensures)
+    rw (t.taken-by.ensures, c.arcs_in.ensures)
     (checked_next _ _ _ _ _ _ (inside a).before.loop.inv (inside a).loop-test.taken a.line_at.ensures
     (sym (checked t).line-check.ensures ∙ passed t))
 
