@@ -1,6 +1,5 @@
 -- `destination_checks::head_sums_check` meets its contract: costs that are low enough for every hold pass with each.
 use native.Mathlib.Omega.{arith}
-use borrow.Author.Rules.{rules}
 use Rattle.destination_checks.proofs.Heads.{low_costs_pass_heads}
 use Rattle.destination_checks.proofs.head_sums_check.Goals as goal
 

@@ -1,5 +1,3 @@
--- `destination_checks::one_level_check_to` meets its contract.
-use borrow.Author.Rules.{rules}
 use Rattle.checks.specs.Checks.{lent_checks}
 use Rattle.checks.proofs.Order.{both}
 use Rattle.destination_checks.specs.Destination.{checks_to}

@@ -1,5 +1,4 @@
 -- `destination_checks::reversed_lists_check` meets its contract: its checks are put together two at a time.
-use borrow.Author.Rules.{rules}
 use Rattle.checks.specs.Checks.{lent_checks}
 use Rattle.checks.proofs.Order.{one, both}
 use Rattle.destination_checks.proofs.reversed_lists_check.Goals as goal

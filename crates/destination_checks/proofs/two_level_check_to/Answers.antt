@@ -1,5 +1,3 @@
--- `destination_checks::two_level_check_to` meets its contract.
-use borrow.Author.Rules.{rules}
 use Rattle.checks.specs.Checks.{lent_checks}
 use Rattle.checks.proofs.Order.{one, both}
 use Rattle.destination_checks.specs.Destination.{checks_to}

@@ -3,7 +3,6 @@ use Prim.Native.Nat.{ℕ}
 use mathlib.Core.Path.{◌≡◌, sym, ◌∙◌, subst}
 use mathlib.Core.List.{List}
 use lib.ListN.{length}
-use borrow.Author.Rules.{rules}
 use Rattle.dimacs_checks.specs.declared.ProblemLine.TheVariants.{ProblemAt}
 use Rattle.dimacs_checks.specs.Finding.{ProblemFound}
 use Rattle.dimacs_checks.specs.Checking.{road_check}

@@ -1,10 +1,7 @@
 -- `dimacs_checks::find_problem` meets its contract: comments alone were passed.
-use Prim.Native.Nat.{ℕ, ◌+◌, ◌-◌}
+use Prim.Native.Nat.{◌+◌}
 use native.Mathlib.Omega.{arith}
 use mathlib.Core.Path.{sym, ◌∙◌}
-use mathlib.Core.List.{List}
-use lib.ListN.{length}
-use borrow.Author.Rules.{rules}
 use Rattle.dimacs_lines.proofs.Behind.{line_some}
 use Rattle.dimacs_checks.specs.declared.ProblemLine.TheVariants.{ProblemAt}
 use Rattle.dimacs_checks.specs.Finding.{ProblemFound}

@@ -1,4 +1,3 @@
--- `dimacs_checks::last_line` meets its contract.
 use native.Mathlib.Omega.{arith}
 use Rattle.dimacs_checks.proofs.last_line.Goals as goal
 

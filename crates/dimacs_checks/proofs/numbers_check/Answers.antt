@@ -1,5 +1,4 @@
 -- `dimacs_checks::numbers_check` meets its contract: its checks are put together two at a time.
-use borrow.Author.Rules.{rules}
 use Rattle.checks.proofs.Order.{one, both}
 use Rattle.dimacs_checks.specs.Checking.{problem_checks}
 use Rattle.dimacs_checks.proofs.numbers_check.Goals as goal

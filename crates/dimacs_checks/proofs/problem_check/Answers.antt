@@ -1,6 +1,5 @@
 -- `dimacs_checks::problem_check` meets its contract: the lines are checked where the `p` line passes.
 use mathlib.Core.Path.{sym, ◌∙◌}
-use borrow.Author.Rules.{rules}
 use Rattle.checks.proofs.Order.{one, stopped, gone_on}
 use Rattle.dimacs_checks.proofs.problem_check.Goals as goal
 

@@ -1,4 +1,3 @@
--- `dimacs_checks::lines::end_check` meets its contract.
 use borrow.Author.Tests.{lt-ltb, le-ltb}
 use Rattle.check_numbers.specs.Numbers.{fault_if}
 use Rattle.dimacs_checks.proofs.lines.end_check.Goals as goal

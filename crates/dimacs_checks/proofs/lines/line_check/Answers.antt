@@ -1,6 +1,5 @@
 -- `dimacs_checks::lines::line_check` meets its contract, by the kinds of line.
 use mathlib.Core.Path.{◌∙◌}
-use borrow.Author.Rules.{rules}
 use borrow.Author.Tests.{le-leb, lt-leb}
 use Rattle.check_numbers.specs.Numbers.{fault_if}
 use Rattle.checks.specs.Checks.{first_fault}
