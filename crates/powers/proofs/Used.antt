@@ -1,4 +1,4 @@
--- Every entry that the two_level_lem heap uses is a power: the sizes and the widths of the buckets below the last. Assumes nothing.
+-- Every entry that the two-level heap uses is a power: the sizes and the widths of the buckets below the last. Assumes nothing.
 use Prim.Native.Nat.{ℕ, zero, suc, ◌+◌, ◌-◌, ◌^◌, ◌≤◌, ◌<◌}
 use native.Mathlib.Omega.{arith}
 use native.Mathlib.Nat.{pow-zero}

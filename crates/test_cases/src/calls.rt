@@ -1,15 +1,22 @@
 // The rows that call the planner. Lists are lent with words of no meaning in them, and all their words go into the sums that are printed,
 // so that every word written or left shows.
 use model::Node;
+use std::io;
 use test_rows::bytes::made;
 use test_rows::lists::front;
 use test_rows::map::{COSTS, HEADS, HOLDS, PARENTS, part};
 use test_rows::printing::{print_byte_sums, print_sums, print_words};
 use test_rows::rows::Row;
-use std::io;
 
 // Row: one N,C,SOURCE STARTS,HEADS,COSTS,HOLDS DISTANCES,PARENTS,ROSTER,WORK
-fn one_level(rt: &impl Print, row: Row, starts: &[u32], heads: &[u32], costs: &[u32], holds: &[u32]) -> io::Result<()> {
+fn one_level(
+    rt: &impl Print,
+    row: Row,
+    starts: &[u32],
+    heads: &[u32],
+    costs: &[u32],
+    holds: &[u32],
+) -> io::Result<()> {
     let mut distances = [1000001u32; 4096];
     let mut parents = [2000003u32; 4096];
     let mut roster = [3000017u32; 4096];
@@ -33,7 +40,14 @@ fn one_level(rt: &impl Print, row: Row, starts: &[u32], heads: &[u32], costs: &[
 }
 
 // Row: two N,C,SOURCE STARTS,HEADS,COSTS,HOLDS DISTANCES,PARENTS,ROSTER,WORK K
-fn two_level(rt: &impl Print, row: Row, starts: &[u32], heads: &[u32], costs: &[u32], holds: &[u32]) -> io::Result<()> {
+fn two_level(
+    rt: &impl Print,
+    row: Row,
+    starts: &[u32],
+    heads: &[u32],
+    costs: &[u32],
+    holds: &[u32],
+) -> io::Result<()> {
     let mut distances = [1000001u32; 4096];
     let mut parents = [2000003u32; 4096];
     let mut roster = [3000017u32; 4096];
@@ -67,7 +81,13 @@ fn print_roster(rt: &impl Print, row: Row, roster: &[u32]) -> io::Result<()> {
     Ok(())
 }
 
-fn print_lists(rt: &impl Print, first: &[u32], second: &[u32], third: &[u32], fourth: &[u32]) -> io::Result<()> {
+fn print_lists(
+    rt: &impl Print,
+    first: &[u32],
+    second: &[u32],
+    third: &[u32],
+    fourth: &[u32],
+) -> io::Result<()> {
     print_sums(rt, first)?;
     print_sums(rt, second)?;
     print_sums(rt, third)?;
@@ -117,8 +137,7 @@ pub fn plan(rt: &impl Print, file: &[u8]) -> io::Result<()> {
     );
     print_file(rt, file, &output, length)?;
     print_all(
-        rt,
-        &starts, &heads, &costs, &holds, &distances, &parents, &roster, &work,
+        rt, &starts, &heads, &costs, &holds, &distances, &parents, &roster, &work,
     )
 }
 
@@ -155,7 +174,9 @@ fn print_file(rt: &impl Print, file: &[u8], output: &[u8; 33280], length: usize)
     print_byte_sums(rt, output)
 }
 
-fn print_all(rt: &impl Print, starts: &[u32; 513],
+fn print_all(
+    rt: &impl Print,
+    starts: &[u32; 513],
     heads: &[u32; 2048],
     costs: &[u32; 2048],
     holds: &[u32; 512],
@@ -172,7 +193,14 @@ fn print_all(rt: &impl Print, starts: &[u32; 513],
 }
 
 // Row: scan, as two
-fn both_levels(rt: &impl Print, row: Row, starts: &[u32], heads: &[u32], costs: &[u32], holds: &[u32]) -> io::Result<()> {
+fn both_levels(
+    rt: &impl Print,
+    row: Row,
+    starts: &[u32],
+    heads: &[u32],
+    costs: &[u32],
+    holds: &[u32],
+) -> io::Result<()> {
     one_level(rt, row, starts, heads, costs, holds)?;
     two_level(rt, row, starts, heads, costs, holds)
 }

@@ -4,16 +4,22 @@
 #![tactic(auto)]
 
 use planning_file::File;
+use std::io;
 use test_rows::map::Map;
 use test_rows::{bytes, map, rows};
-use std::io;
 
 mod calls;
 mod planning_file;
 mod printing;
 
 // One row, told by the first letter of its word; gives back how many bytes the planning file then has.
-fn act(rt: &impl Print, line: &[u8], map: &mut Map, file: &mut File, written: usize) -> io::Result<usize> {
+fn act(
+    rt: &impl Print,
+    line: &[u8],
+    map: &mut Map,
+    file: &mut File,
+    written: usize,
+) -> io::Result<usize> {
     test_rows::printing::print_line(rt, line)?;
     let row = rows::row_of(line);
     let word = row.word;

@@ -2,10 +2,20 @@
 use model::RunAnswer;
 use reader::PlanAnswer;
 use route::RouteAnswer;
-use test_rows::printing::print_number;
 use std::io;
+use test_rows::printing::print_number;
 
-fn print_answer(rt: &impl Print, number: u64, place: u64, a: u64, b: u64, c: u64, d: u64, e: u64, f: u64) -> io::Result<()> {
+fn print_answer(
+    rt: &impl Print,
+    number: u64,
+    place: u64,
+    a: u64,
+    b: u64,
+    c: u64,
+    d: u64,
+    e: u64,
+    f: u64,
+) -> io::Result<()> {
     rt.write_all(b"answer")?;
     print_number(rt, number)?;
     print_number(rt, place)?;
@@ -26,7 +36,7 @@ pub fn print_run(rt: &impl Print, answer: RunAnswer) -> io::Result<()> {
             buckets,
             counts,
         } => print_answer(
-        rt,
+            rt,
             0,
             0,
             reached as u64,
@@ -52,7 +62,7 @@ pub fn print_read(rt: &impl Print, answer: PlanAnswer) -> io::Result<()> {
             source,
             segments,
         } => print_answer(
-        rt,
+            rt,
             0,
             0,
             nodes as u64,

@@ -2,10 +2,10 @@
 // printed, so that every word written or left shows.
 use crate::printing::{print_answer, print_reversed, print_run};
 use model::Node;
+use std::io;
 use test_rows::lists::front;
 use test_rows::map::{COSTS, HEADS, HOLDS, part};
 use test_rows::rows::Row;
-use std::io;
 
 // How many words are lent of each list.
 #[derive(Clone, Copy)]

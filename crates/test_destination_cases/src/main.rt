@@ -3,9 +3,9 @@
 #![tactic(auto)]
 
 use calls::Lent;
+use std::io;
 use test_rows::map::Map;
 use test_rows::{map, rows};
-use std::io;
 
 mod calls;
 mod printing;

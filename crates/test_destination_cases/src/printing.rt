@@ -1,9 +1,9 @@
 // What a row gives: the answer, the words lent, and sums of all words.
 use crate::calls::Lent;
 use model::RunAnswer;
+use std::io;
 use test_rows::map::part;
 use test_rows::printing::{print_number, print_sums, print_words};
-use std::io;
 
 // Number and place, then of a run that is accepted r, B, decreases, placements, looks and reads.
 pub fn print_answer(rt: &impl Print, answer: RunAnswer) -> io::Result<()> {
@@ -35,7 +35,13 @@ fn print_list(rt: &impl Print, name: &[u8], list: &[u32], words: u32) -> io::Res
     print_words(rt, part(list, 0, words))
 }
 
-fn print_lists_sums(rt: &impl Print, first: &[u32], second: &[u32], third: &[u32], fourth: &[u32]) -> io::Result<()> {
+fn print_lists_sums(
+    rt: &impl Print,
+    first: &[u32],
+    second: &[u32],
+    third: &[u32],
+    fourth: &[u32],
+) -> io::Result<()> {
     rt.write_all(b"\nsums")?;
     print_sums(rt, first)?;
     print_sums(rt, second)?;
@@ -44,7 +50,9 @@ fn print_lists_sums(rt: &impl Print, first: &[u32], second: &[u32], third: &[u32
 }
 
 // Of a row sums the sums alone, and of the work list, of which most words are 0, in every row.
-pub fn print_run(rt: &impl Print, word: u8,
+pub fn print_run(
+    rt: &impl Print,
+    word: u8,
     lent: Lent,
     distances: &[u32],
     parents: &[u32],
@@ -59,7 +67,9 @@ pub fn print_run(rt: &impl Print, word: u8,
     print_lists_sums(rt, distances, parents, roster, work)
 }
 
-pub fn print_reversed(rt: &impl Print, word: u8,
+pub fn print_reversed(
+    rt: &impl Print,
+    word: u8,
     lent: Lent,
     starts: &[u32],
     heads: &[u32],

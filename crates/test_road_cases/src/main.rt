@@ -3,8 +3,8 @@
 #![tactic(auto)]
 
 use road_file::File;
-use test_rows::{bytes, rows};
 use std::io;
+use test_rows::{bytes, rows};
 
 mod reading;
 mod road_file;

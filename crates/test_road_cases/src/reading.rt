@@ -1,10 +1,10 @@
 // The row that has the file read. Lists are lent with words of no meaning in them, and all their words go into the sums that are printed, so
 // that every word written or left shows.
 use dimacs::DimacsAnswer;
+use std::io;
 use test_rows::lists::front;
 use test_rows::printing::{print_byte_sums, print_number, print_sums};
 use test_rows::rows::Row;
-use std::io;
 
 // Row: read C STARTS,HEADS,COSTS SHOWN
 pub fn read(rt: &impl Print, row: Row, file: &[u8]) -> io::Result<()> {
@@ -49,7 +49,13 @@ fn print_answer(rt: &impl Print, answer: DimacsAnswer) -> io::Result<()> {
     }
 }
 
-fn print_numbers(rt: &impl Print, number: u64, place: u64, nodes: u64, arcs: u64) -> io::Result<()> {
+fn print_numbers(
+    rt: &impl Print,
+    number: u64,
+    place: u64,
+    nodes: u64,
+    arcs: u64,
+) -> io::Result<()> {
     rt.write_all(b"answer")?;
     print_number(rt, number)?;
     print_number(rt, place)?;

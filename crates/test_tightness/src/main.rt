@@ -48,7 +48,14 @@ fn print_share(rt: &impl Print, count: u32, most: u64) -> io::Result<()> {
 
 // The counts of an accepted run beside m - r + 1, r × B + m - r + 1, r × (B + segments) and r × (B - 1) + 2 × placements, the last by
 // document 02, paper 3.
-fn print_shares(rt: &impl Print, arcs: u64, segments: u32, reached: u32, buckets: u32, counts: Counts) -> io::Result<()> {
+fn print_shares(
+    rt: &impl Print,
+    arcs: u64,
+    segments: u32,
+    reached: u32,
+    buckets: u32,
+    counts: Counts,
+) -> io::Result<()> {
     let spare = minus(plus(arcs, 1), wide(reached));
     print_number(rt, wide(reached))?;
     print_number(rt, arcs)?;
@@ -66,7 +73,14 @@ fn print_shares(rt: &impl Print, arcs: u64, segments: u32, reached: u32, buckets
     print_share(rt, counts.reads, plus(minus(held, wide(reached)), twice))
 }
 
-fn print_run(rt: &impl Print, name: &[u8], heap: &[u8], arcs: u64, segments: u32, answer: RunAnswer) -> io::Result<()> {
+fn print_run(
+    rt: &impl Print,
+    name: &[u8],
+    heap: &[u8],
+    arcs: u64,
+    segments: u32,
+    answer: RunAnswer,
+) -> io::Result<()> {
     rt.write_all(name)?;
     rt.write_all(heap)?;
     match answer {
@@ -83,7 +97,9 @@ fn print_run(rt: &impl Print, name: &[u8], heap: &[u8], arcs: u64, segments: u32
     rt.write_all(b"\n")
 }
 
-fn run_one_level(rt: &impl Print, name: &[u8],
+fn run_one_level(
+    rt: &impl Print,
+    name: &[u8],
     n: u32,
     ceiling: u32,
     starts: &[u32],
@@ -111,7 +127,9 @@ fn run_one_level(rt: &impl Print, name: &[u8],
     print_run(rt, name, b",one", heads.len() as u64, 0, answer)
 }
 
-fn run_two_level(rt: &impl Print, name: &[u8],
+fn run_two_level(
+    rt: &impl Print,
+    name: &[u8],
     n: u32,
     ceiling: u32,
     segments: u32,
@@ -141,7 +159,9 @@ fn run_two_level(rt: &impl Print, name: &[u8],
     print_run(rt, name, b",two", heads.len() as u64, segments, answer)
 }
 
-fn run_both(rt: &impl Print, name: &[u8],
+fn run_both(
+    rt: &impl Print,
+    name: &[u8],
     n: u32,
     ceiling: u32,
     segments: u32,
@@ -195,7 +215,7 @@ fn over(a: u32, b: u32) -> u32 {
 }
 
 // One arc of cost C leads to node 1, and from there one to each other node, all of the same distance but a few. Those few are the least of
-// each bucket in turn, so that with each of them all others fall one bucket. Here by the sizes of the one_level_lem heap.
+// each bucket in turn, so that with each of them all others fall one bucket. Here by the sizes of the one-level heap.
 fn fall_by_halves(rt: &impl Print) -> io::Result<()> {
     let mut starts = [4095u32; 4097];
     starts[0] = 0;
@@ -218,7 +238,7 @@ fn fall_by_halves(rt: &impl Print) -> io::Result<()> {
     )
 }
 
-// The same by the sizes of the two_level_lem heap with K = 32, whose segment of the last bucket but one is 32,768 keys wide.
+// The same by the sizes of the two-level heap with K = 32, whose segment of the last bucket but one is 32,768 keys wide.
 fn fall_by_segments(rt: &impl Print) -> io::Result<()> {
     let mut starts = [4095u32; 4097];
     starts[0] = 0;
@@ -356,7 +376,9 @@ fn decrease_at_every_arc(rt: &impl Print) -> io::Result<()> {
 
 fn main(rt: HostRuntime) -> io::Result<()> {
     rt.write_all(b"map,heap,r,m,B,segments")?;
-    rt.write_all(b",decreases,bound,share,placements,bound,share,looks,bound,share,reads,bound,share\n")?;
+    rt.write_all(
+        b",decreases,bound,share,placements,bound,share,looks,bound,share,reads,bound,share\n",
+    )?;
     fall_by_halves(&rt)?;
     fall_by_segments(&rt)?;
     decrease_at_every_arc(&rt)?;

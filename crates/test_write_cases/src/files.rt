@@ -4,10 +4,10 @@ use crate::printing::print_text;
 use dimacs::DimacsAnswer;
 use model::Node;
 use reader::PlanAnswer;
+use std::io;
 use test_rows::map::part;
 use test_rows::rows::Row;
 use writer::WriteAnswer;
-use std::io;
 
 // What a file or a row tells beside the lists.
 #[derive(Clone, Copy)]

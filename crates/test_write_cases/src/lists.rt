@@ -1,10 +1,10 @@
 // The rows that have the map's lists written.
 use crate::printing::{print_sums, print_text};
 use model::Node;
+use std::io;
 use test_rows::map::{COSTS, HEADS, HOLDS, part};
 use test_rows::rows::Row;
 use writer::WriteAnswer;
-use std::io;
 
 fn write(row: Row, map: &[u32], buffer: &mut [u8]) -> WriteAnswer {
     test_buffers::fill(buffer);
@@ -29,7 +29,12 @@ pub fn write_text(rt: &impl Print, row: Row, map: &[u32]) -> io::Result<()> {
 }
 
 // An array of this size is lent whole, so that its length needs no proof.
-fn write_sums(rt: &impl Print, row: Row, map: &[u32], buffer: &mut [u8; 1213000]) -> io::Result<()> {
+fn write_sums(
+    rt: &impl Print,
+    row: Row,
+    map: &[u32],
+    buffer: &mut [u8; 1213000],
+) -> io::Result<()> {
     let answer = write(row, map, buffer);
     print_sums(rt, answer, buffer)
 }

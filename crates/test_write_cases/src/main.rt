@@ -2,16 +2,22 @@
 // repeats every row and has behind it what the row gave. The head of crates/test_write_cases/stdin says what each row is.
 #![tactic(auto)]
 
+use std::io;
 use test_rows::map::Map;
 use test_rows::{bytes, map, rows};
-use std::io;
 
 mod files;
 mod lists;
 mod printing;
 
 // One row, told by the first letter of its word; gives back how many bytes the file that is being made then has.
-fn act(rt: &impl Print, line: &[u8], map: &mut Map, file: &mut [u8; 1024], made: usize) -> io::Result<usize> {
+fn act(
+    rt: &impl Print,
+    line: &[u8],
+    map: &mut Map,
+    file: &mut [u8; 1024],
+    made: usize,
+) -> io::Result<usize> {
     test_rows::printing::print_line(rt, line)?;
     let row = rows::row_of(line);
     let word = row.word;

@@ -1,7 +1,7 @@
 // What a row gives: the answer, the file, and what has become of the rest of the buffer.
+use std::io;
 use test_rows::printing::{print_byte_sums, print_number};
 use writer::WriteAnswer;
-use std::io;
 
 // Number and place, and the length of the file.
 fn print_answer(rt: &impl Print, answer: WriteAnswer) -> io::Result<()> {

@@ -1,9 +1,6 @@
 -- The letters before `i` are those of the bytes.
-use Prim.Native.Nat.{◌-◌}
 use native.Mathlib.Omega.{arith}
-use lib.ListN.{length}
-use borrow.Author.Rules.{rules}
-use Rattle.dimacs_lines.proofs.Begins.{begins_short, Matched, matched_start, matched_not, matched_next, matched_end}
+use Rattle.dimacs_lines.proofs.Begins.{begins_short, matched_start, matched_not, matched_next, matched_end}
 use Rattle.dimacs_lines.proofs.begins_with.Goals as goal
 
 pub returns-then-bytes-at : goal.returns-then-bytes-at

@@ -1,8 +1,5 @@
 -- No line feed stands before `end`.
-use Prim.Native.Nat.{◌-◌}
-use lib.ListN.{length}
-use borrow.Author.Rules.{rules}
-use Rattle.dimacs_lines.proofs.Comments.{CommentUpTo, passed_start, passed_feed, passed_next, passed_end}
+use Rattle.dimacs_lines.proofs.Comments.{passed_start, passed_feed, passed_next, passed_end}
 use Rattle.dimacs_lines.proofs.comment_at.Goals as goal
 
 pub returns-then-bytes-end-eq10 : goal.returns-then-bytes-end-eq10

@@ -1,11 +1,10 @@
 -- The first i fields are counted.
 use mathlib.Core.Path.{◌≡◌, ap}
-use Prim.Native.Nat.{◌-◌, ◌≤◌}
 use native.Mathlib.Omega.{arith}
 use lib.ListN.{length, get_or}
 use borrow.Author.Rules.{rules}
 use Rattle.fields.proofs.Decimals.{decimal_most}
-use Rattle.line_writing.proofs.Rendered.{first_fields, first_none, first_all, next_length, first_within, line_most}
+use Rattle.line_writing.proofs.Rendered.{first_none, first_all, next_length, first_within, line_most}
 use Rattle.line_writing.proofs.line_length.Goals as goal
 
 pub loop-i-init : goal.loop-i-init

@@ -1,11 +1,8 @@
 -- The first i fields are counted.
-use mathlib.Core.Path.{◌≡◌, ap}
+use mathlib.Core.Path.{◌≡◌}
 use Prim.Native.Nat.{◌-◌, ◌≤◌}
-use native.Mathlib.Omega.{arith}
-use lib.ListN.{length, get_or}
-use borrow.Author.Rules.{rules}
-use Rattle.fields.proofs.Decimals.{decimal_most}
-use Rattle.line_writing.proofs.Rendered.{first_fields, first_none, first_all, next_length, first_within, line_most}
+use lib.ListN.{length}
+use Rattle.line_writing.proofs.Rendered.{first_fields}
 use Rattle.line_writing.proofs.line_length.Given as goal
 
 abbrev pub invariant-loop-i : goal.invariant-loop-i

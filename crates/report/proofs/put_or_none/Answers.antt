@@ -1,7 +1,6 @@
 use mathlib.Core.Path.{sym, ap}
 use mathlib.Core.List.{List}
 use Prim.Native.Nat.{ℕ}
-use borrow.Author.Rules.{rules}
 use Rattle.fields.proofs.Written.{writes_same, writes_then}
 use Rattle.report.specs.Report.{ended}
 use Rattle.report.proofs.Lines.{or_none_mark, or_none_number}

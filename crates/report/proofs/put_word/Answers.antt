@@ -1,4 +1,3 @@
-use borrow.Author.Rules.{rules}
 use Rattle.fields.proofs.Written.{writes_then}
 use Rattle.report.proofs.put_word.Goals as goal
 

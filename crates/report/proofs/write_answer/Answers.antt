@@ -1,6 +1,5 @@
 -- Its lines are written one behind the other.
 use native.Mathlib.Omega.{arith}
-use borrow.Author.Rules.{rules}
 use Rattle.fields.proofs.Written.{writes_same, writes_then}
 use Rattle.report.specs.Report.{word_one, word_two}
 use Rattle.report.proofs.Lines.{counts_most, heap_most, accepted_whole}
@@ -28,7 +27,8 @@ write_heap-next-requires c =
 
 pub write_nodes-requires : goal.write_nodes-requires
 write_nodes-requires c =
-    let given = c.args in record { nodes_in_bounds = omega (
+    let given = c.args in record {
+      nodes_in_bounds = omega (
         arith,
         counts_most given.nodes given.arcs given.reached given.decreases,
         heap_most word_one given.one.buckets given.one.placements given.one.looks given.one.reads,
@@ -37,7 +37,9 @@ write_nodes-requires c =
         c.write_heap-third.ensures.behind,
         c.write_heap-next.ensures.behind,
         c.requires.nodes_in_bounds,
-      ); nodes_in_bounds_2 = c.requires.nodes_in_bounds_2 }
+      );
+      nodes_in_bounds_2 = c.requires.nodes_in_bounds_2;
+    }
 
 pub returns : goal.returns
 returns c =

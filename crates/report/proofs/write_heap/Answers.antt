@@ -1,5 +1,4 @@
 use native.Mathlib.Omega.{arith}
-use borrow.Author.Rules.{rules}
 use Rattle.fields.specs.Fields.{comma}
 use Rattle.fields.proofs.Written.{writes_same, writes_then}
 use Rattle.report.proofs.Lines.{ended_length, field_most, heap_whole}

@@ -1,10 +1,8 @@
 -- The lines of the first v nodes are written.
 use mathlib.Core.Path.{◌≡◌}
-use Prim.Native.Nat.{◌-◌, ◌≤◌}
 use native.Mathlib.Numerals.{add-one}
 use native.Mathlib.Omega.{arith}
 use borrow.Author.Rules.{rules}
-use Rattle.fields.specs.Writing.{Writes}
 use Rattle.fields.proofs.Written.{writes_nothing, writes_then, writes_same, writes_length}
 use Rattle.report.specs.Report.{node_lines}
 use Rattle.report.proofs.Lines.{nodes_next, nodes_most}

@@ -1,4 +1,3 @@
-use borrow.Author.Rules.{rules}
 use Rattle.fields.proofs.Written.{writes_same, writes_then}
 use Rattle.report.proofs.Lines.{refused_whole}
 use Rattle.report.proofs.write_refusal.Goals as goal

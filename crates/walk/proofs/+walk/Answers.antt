@@ -1,8 +1,5 @@
-use Prim.Native.Nat.{ℕ, ◌<◌}
 use native.Mathlib.Omega.{arith}
 use mathlib.Core.Path.{sym, ◌∙◌}
-use borrow.Author.Rules.{rules}
-use borrow.Author.Tests.{not-true, not-false}
 use Rattle.walk.proofs.Walking.{back_source, back_stops, back_misfit, parent_inside, arc_fits, misfit, walks_on, lost_walk, came_back, walked_on}
 use Rattle.walk.proofs.+walk.Goals as goal
 

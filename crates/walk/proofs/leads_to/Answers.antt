@@ -1,6 +1,4 @@
--- `walk::leads_to` meets its contract.
 use mathlib.Core.Path.{refl}
-use borrow.Author.Rules.{rules}
 use borrow.Author.Tests.{lt-ltb, le-ltb}
 use Rattle.walk.proofs.leads_to.Goals as goal
 

@@ -1,8 +1,6 @@
 -- `walk::tail_of` meets its contract: what is left of the nodes is halved, and the arc leaves one of them.
-use Prim.Native.Nat.{◌-◌}
 use native.Mathlib.Omega.{arith}
-use borrow.Author.Rules.{rules}
-use Rattle.walk.proofs.Tails.{Within, within_start, within_inside, within_end}
+use Rattle.walk.proofs.Tails.{within_start, within_inside, within_end}
 use Rattle.walk.proofs.tail_of.Goals as goal
 
 pub loop-low-init : goal.loop-low-init
