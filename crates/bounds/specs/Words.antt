@@ -1,5 +1,5 @@
 -- The bounds u(1) to u(B) of a radix heap and the sizes of its buckets, as they stand in lent words, for both heaps: K is the number
--- of segments of a bucket below the last, and 1 in the one_level_lem heap (document 01, "One-level heap" and "Two-level heap").
+-- of segments of a bucket below the last, and 1 in the one-level heap (document 01, "One-level heap" and "Two-level heap").
 use Rattle.std.specs.Prelude.{ℕ, ◌+◌, ◌-◌, ◌*◌, ◌/◌, ◌≤◌, ◌<◌, ◌≡◌, Bool, true, cond, ◌&&◌, List, ◌++◌, ltb, length, get_or, take, drop}
 use Rattle.theory.specs.Shape.{Shape}
 use Rattle.theory.specs.Heap.{bound, rebound, bounds_from}

@@ -2,7 +2,7 @@
 // heap").
 //     words[4 * n + i]    u(i), the bound of bucket i, for 1 ≤ i ≤ B; words[4 * n] is not used
 //     sizes[i]            the size of bucket i, for 1 ≤ i < B, and 1 at i = 0: a segment of bucket i is sizes[i - 1] keys wide
-// The one_level_lem heap has one segment to a bucket.
+// The one-level heap has one segment to a bucket.
 #![tactic(auto)]
 
 ghost use Rattle.std.specs.Prelude.{◌≡◌, ◌+◌, ◌*◌, ◌≤◌, ◌<◌, min, length};
@@ -18,7 +18,7 @@ pub fn bound_of(words: &[u32], n: usize, i: usize) -> u32
 }
 
 // The bucket of a key, and the bounds that the search for it has read (document 02, paper 3).
-#[derive(Drop)]
+#[derive(Clone, Copy)]
 pub struct BucketSearch {
     pub bucket: usize,
     pub reads: u32,
@@ -49,7 +49,7 @@ pub fn bucket_of(words: &[u32], n: usize, key: u32, start: usize) -> BucketSearc
 }
 
 // The same for a key that is no higher than the bound of the bucket where the search begins, and that bound.
-#[derive(Drop)]
+#[derive(Clone, Copy)]
 pub struct HeldSearch {
     pub bound: u32,
     pub bucket: usize,

@@ -49,5 +49,5 @@ pub record Earlier (keys : List ℕ) (u v r : ℕ) : Type 0 where
 
 -- r is the node of a slot that goes before each
 pub record LeastIn (n segments slot : ℕ) (words keys : List ℕ) (r : ℕ) : Type 0 where
-  pub in_slot_lem : InSlot n segments slot words r
+  pub in_slot : InSlot n segments slot words r
   pub before : (u : ℕ) → InSlot n segments slot words u → Before keys r u

@@ -20,7 +20,7 @@ ghost use Rattle.buckets.specs.Answer.{InSlot, Some, FirstIn, EmptyBucket, Earli
 
 use model::Node;
 
-#[derive(Drop)]
+#[derive(Clone, Copy)]
 pub enum Found {
     At(Node),
     Nothing,

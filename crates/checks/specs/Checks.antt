@@ -82,7 +82,7 @@ run_lists n lengths needed =
     ∷ record { words = lengths.work; needed = needed }
     ∷ []
 
--- 9, which a one_level_lem run does not make (document 01, "What a call returns").
+-- 9, which a one-level run does not make (document 01, "What a call returns").
 abbrev pub levels_checks : Levels → List Check
 levels_checks one = []
 levels_checks (two K) = segments_check K ∷ []

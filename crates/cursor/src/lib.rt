@@ -10,7 +10,7 @@ use lines::read_numbers;
 mod lines;
 
 // A line's numbers, those past its last field 0, and the bytes that it takes.
-#[derive(Drop)]
+#[derive(Clone, Copy)]
 pub enum LineNumbers {
     NoNumbers,
     NumbersRead {
@@ -26,7 +26,7 @@ pub enum LineNumbers {
 }
 
 // The place is the first byte that is still unread.
-#[derive(Drop)]
+#[derive(Clone, Copy)]
 pub struct Cursor<'a> {
     pub bytes: &'a [u8],
     pub at: usize,

@@ -56,10 +56,10 @@ pub record RanTo (L : Levels) (I : Inputs) (check : Check) (r : RunAnswer) (l l'
 abbrev pub PromisedTo : Levels → Inputs → RunAnswer → (l l' : LentTo) → Type 0
 PromisedTo L I r l l' = RanTo L I (first_fault (checks_to L I (lengths_to l))) r l l'
 
--- The one_level_lem run to a destination: checks 1 to 6, 20, 7, 8 and 10 in order (document 02, paper 7).
+-- The one-level run to a destination: checks 1 to 6, 20, 7, 8 and 10 in order (document 02, paper 7).
 abbrev pub OneLevelPromisedTo : Inputs → RunAnswer → (l l' : LentTo) → Type 0
 OneLevelPromisedTo = PromisedTo one
 
--- The two_level_lem run to a destination: checks 1 to 6, 20, 7 to 10 in order (document 02, paper 7).
+-- The two-level run to a destination: checks 1 to 6, 20, 7 to 10 in order (document 02, paper 7).
 abbrev pub TwoLevelPromisedTo : (K : ℕ) → Inputs → RunAnswer → (l l' : LentTo) → Type 0
 TwoLevelPromisedTo K = PromisedTo (two K)

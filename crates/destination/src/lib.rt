@@ -9,7 +9,7 @@ ghost use Rattle.destination.specs.Promise.{RanTo, OneLevelPromisedTo, TwoLevelP
 
 use model::{Check, Node, RunAnswer};
 
-// The one_level_lem run to a destination, of inputs and lists that have passed the checks: the reversed map is built and run on, and its arcs in
+// The one-level run to a destination, of inputs and lists that have passed the checks: the reversed map is built and run on, and its arcs in
 // the parents get their old numbers.
 fn one_level_back(
     n: u32,
@@ -66,7 +66,7 @@ fn one_level_back(
     answer
 }
 
-// The two_level_lem run to a destination, of inputs and lists that have passed the checks: the reversed map is built and run on, and its arcs in
+// The two-level run to a destination, of inputs and lists that have passed the checks: the reversed map is built and run on, and its arcs in
 // the parents get their old numbers.
 fn two_level_back(
     n: u32,
@@ -125,7 +125,7 @@ fn two_level_back(
     answer
 }
 
-// The one_level_lem run to a destination.
+// The one-level run to a destination.
 pub fn one_level_to(
     n: u32,
     ceiling: u32,
@@ -188,7 +188,7 @@ pub fn one_level_to(
     )
 }
 
-// The two_level_lem run to a destination.
+// The two-level run to a destination.
 pub fn two_level_to(
     n: u32,
     ceiling: u32,

@@ -3,7 +3,6 @@ use Prim.Native.Nat.{ℕ, ◌+◌, ◌≤◌}
 use native.Mathlib.Omega.{arith}
 use mathlib.Core.Path.{◌≡◌}
 use mathlib.Core.List.{List}
-use lib.ListN.{length}
 use Rattle.model.specs.declared.Check.TheVariants.{Passed, Fault}
 use Rattle.theory.specs.Maps.{arcs, head_of}
 use Rattle.theory.specs.Runs.{Inputs, Levels, Allowed, work_words}

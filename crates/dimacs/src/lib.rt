@@ -9,7 +9,7 @@ use model::Check;
 mod filling;
 
 // n and m of the `p` line, or a refusal's number and place.
-#[derive(Drop)]
+#[derive(Clone, Copy)]
 pub enum DimacsAnswer {
     Read { nodes: u32, arcs: u32 },
     Refused { number: u32, place: usize },

@@ -15,7 +15,7 @@ use model::Check;
 mod lines;
 
 // The `p` line: its numbers, the place behind it and the number of lines up to it. Without one, the refusal's number and place.
-#[derive(Drop)]
+#[derive(Clone, Copy)]
 pub enum ProblemLine {
     NoProblem {
         number: u32,

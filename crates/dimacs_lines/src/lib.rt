@@ -7,7 +7,7 @@ ghost use Rattle.dimacs_lines.specs.Lines.{begins, comment_from, problem_line, r
 use fields::LineRead;
 
 // A line: what it tells, and the bytes that it takes.
-#[derive(Drop)]
+#[derive(Clone, Copy)]
 pub enum RoadLine {
     IllFormed,
     Comment {

@@ -5,14 +5,14 @@ pub mod reading;
 pub mod writing;
 
 // A field's value, and the number of bytes that it takes with the byte that ends it.
-#[derive(Drop)]
+#[derive(Clone, Copy)]
 pub enum Field {
     NoField,
     Value { value: u32, taken: usize },
 }
 
 // The number of bytes that a line takes.
-#[derive(Drop)]
+#[derive(Clone, Copy)]
 pub enum LineRead {
     Missing,
     Taken { taken: usize },

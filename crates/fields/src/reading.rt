@@ -6,7 +6,7 @@ ghost use Rattle.fields.specs.Reading.{DigitsRead, line_taken, fields_into};
 use crate::{Field, LineRead};
 
 // The digits at a place, of which one more than a field has are enough to refuse it, and the number that they spell.
-#[derive(Drop)]
+#[derive(Clone, Copy)]
 struct Digits {
     count: usize,
     value: u32,

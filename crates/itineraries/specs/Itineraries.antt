@@ -35,11 +35,11 @@ route_lines (suc v) distances routes = route_lines v distances routes ++ line_if
 abbrev pub nodes_to : (n source : ℕ) → (starts heads parents : List ℕ) → (v : ℕ) → List ℕ
 nodes_to n source starts heads parents v = nodes_of (route_walk n source starts heads parents v)
 
--- The nodes of the route to node v by the parents of the one_level_lem run of these inputs (document 01, "Routes" and "One-level heap").
+-- The nodes of the route to node v by the parents of the one-level run of these inputs (document 01, "Routes" and "One-level heap").
 abbrev pub run_route : Inputs → (v : ℕ) → List ℕ
 run_route I = nodes_to I.map.nodes I.source I.map.starts I.map.heads (steps_of one I).search.parents
 
--- The lines of the one_level_lem run of these inputs (document 01, "Routes" and "Planning file").
+-- The lines of the one-level run of these inputs (document 01, "Routes" and "Planning file").
 abbrev pub run_lines : Inputs → List ℕ
 run_lines I = route_lines I.map.nodes (steps_of one I).search.distances (run_route I)
 
@@ -64,7 +64,7 @@ unfoldable pub route_fields : (count : ℕ) → (distances : List ℕ) → (rout
 route_fields zero distances routes words = words
 route_fields (suc v) distances routes words = words_if_reached (get_or distances v 0) (routes v) (route_fields v distances routes words)
 
--- The route list behind the routes of the one_level_lem run of these inputs (document 01, "Routes").
+-- The route list behind the routes of the one-level run of these inputs (document 01, "Routes").
 abbrev pub run_fields : Inputs → (words : List ℕ) → List ℕ
 run_fields I words = route_fields I.map.nodes (steps_of one I).search.distances (run_route I) words
 
@@ -73,7 +73,7 @@ abbrev pub checked_words : Check → Plan → (words : List ℕ) → List ℕ
 checked_words Passed plan words = run_fields (plan_run plan) words
 checked_words (Fault number place) plan words = words
 
--- The text is written, and the lists hold the map, what the one_level_lem run leaves, and the routes (document 01, "Planning file" and "Routes").
+-- The text is written, and the lists hold the map, what the one-level run leaves, and the routes (document 01, "Planning file" and "Routes").
 pub record Listed (check : Check) (plan : Plan) (l l' : PlanLists) (route route' output output' : List ℕ) (bytes : ℕ) : Type 0 where
   pub text : Writes 0 (checked_routes check plan) output output' bytes
   pub lists : ListsLeft check plan one l l'
@@ -128,10 +128,10 @@ pub record AllRoutable (n source : ℕ) (starts heads distances parents : List �
 -- free (document 01, "Planning file").
 pub record ListLends (l : PlanLists) (route output : List ℕ) : Type 0 where
   pub lists : WordsLent l
-  pub route_words_lem : length route ≡ 512
+  pub route_words : length route ≡ 512
   pub output_bytes : length output ≡ 1056800
 
--- The one_level_lem run of these inputs is made, and its routes are written (document 01, "Routes" and "One-level heap").
+-- The one-level run of these inputs is made, and its routes are written (document 01, "Routes" and "One-level heap").
 pub record RunListed (I : Inputs) (l l' : PlanLists) (route route' output output' : List ℕ) (written : ℕ) : Type 0 where
   pub text : Writes 0 (run_lines I) output output' written
   pub left : RunLeft Passed one I (lent_of l) (lent_of l')

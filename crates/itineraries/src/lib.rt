@@ -118,7 +118,7 @@ fn write_routes(
     next
 }
 
-// The one_level_lem run of the map in the lists, and the lines of its routes. No refusal of the run can come.
+// The one-level run of the map in the lists, and the lines of its routes. No refusal of the run can come.
 fn list_map(
     nodes: u32,
     arcs: u32,

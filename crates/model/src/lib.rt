@@ -6,21 +6,21 @@ ghost use Rattle.std.specs.Prelude.{◌≡◌};
 ghost use Rattle.model.specs.Answers.{numbers_of, accepted_numbers, refused_numbers};
 
 // A list of words is wrapped where it is read and unwrapped where it is stored: handing over an arc for a node does not compile.
-#[derive(Drop)]
+#[derive(Clone, Copy)]
 pub struct Node(pub u32);
 
-#[derive(Drop)]
+#[derive(Clone, Copy)]
 pub struct Arc(pub u32);
 
 // What one check finds, or several in order: nothing, or the first fault's number and place.
-#[derive(Drop)]
+#[derive(Clone, Copy)]
 pub enum Check {
     Passed,
     Fault { number: u32, place: usize },
 }
 
 // The counts that a run gives back: a further count is a field here.
-#[derive(Drop)]
+#[derive(Clone, Copy)]
 pub struct Counts {
     pub decreases: u32,
     pub placements: u32,
@@ -29,7 +29,7 @@ pub struct Counts {
 }
 
 // What a run gives back.
-#[derive(Drop)]
+#[derive(Clone, Copy)]
 pub enum RunAnswer {
     Accepted {
         reached: u32,

@@ -80,7 +80,7 @@ pub record SomeLabels (layout : Layout) (sizes words distances parents : List �
 -- The words stand for a heap in the scan of u, with link l next and ls after it (document 01, "The search").
 pub record Relaxes {layout : Layout} {sizes : List ℕ} (X : Setting layout sizes) (before : List ℕ) (u : ℕ) (l : Link) (ls : List Link) (h : Heap) (lists : Lists) (s : State) : Type 0 where
   pub stands : Stands layout X.shape before h lists s
-  pub relaxing : Relaxing X.network X.shape X.ceiling X.segment_looks_lem u s.front (l ∷ ls) h
+  pub relaxing : Relaxing X.network X.shape X.ceiling X.segment_looks u s.front (l ∷ ls) h
   pub member : Memᴰ l (X.network.out u)
 
 -- Some heap is so (document 01, "The search").

@@ -14,7 +14,7 @@ mod arcs;
 mod holds;
 
 // What lines have come to: the place behind them, or their first fault.
-#[derive(Drop)]
+#[derive(Clone, Copy)]
 pub enum LinesEnd {
     LinesPassed { behind: usize },
     LinesStopped { number: u32, place: usize },

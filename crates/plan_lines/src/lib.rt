@@ -9,7 +9,7 @@ ghost use Rattle.plan_lines.specs.Told.{lines_taken};
 use cursor::{LineNumbers, numbers_at};
 
 // An arc's line: its three numbers, and the bytes that it takes.
-#[derive(Drop)]
+#[derive(Clone, Copy)]
 pub enum ArcLine {
     NoArc,
     ArcRead {
@@ -21,14 +21,14 @@ pub enum ArcLine {
 }
 
 // A hold's line: its one number, and the bytes that it takes.
-#[derive(Drop)]
+#[derive(Clone, Copy)]
 pub enum HoldLine {
     NoHold,
     HoldRead { hold: u32, taken: usize },
 }
 
 // Line 1: its first five numbers, 1 in `held` where holds are told and else 0, and the bytes that it takes.
-#[derive(Drop)]
+#[derive(Clone, Copy)]
 pub enum HeaderLine {
     NoHeader,
     HeaderRead {

@@ -43,7 +43,7 @@ module _ (I : Inputs) (K : ℕ) (valid : ValidInputs I) (low : 2 ≤ K) (high : 
     segments_low = low;
     segments_high = high;
     tails_rising = arcs_rise valid.sound;
-    arcs_in_lem = map_arcs_in valid;
+    arcs_in = map_arcs_in valid;
     sums_low = map_sums_in valid;
     holds_length = valid.sound.holds_length;
     holds_low = none_above;

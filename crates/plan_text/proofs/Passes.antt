@@ -35,7 +35,7 @@ pub record PlanInRange (n C source K : ℕ) (arcs : List PlanArc) (holds : List 
   pub segments_low : 2 ≤ K
   pub segments_high : K ≤ 64
   pub tails_rising : Rising tail_key n 0 arcs
-  pub arcs_in_lem : ArcsIn n C arcs
+  pub arcs_in : ArcsIn n C arcs
   pub sums_low : All (SumIn C holds) arcs
   pub holds_length : length holds ≡ n
   pub holds_low : NoneAbove C holds
@@ -45,7 +45,7 @@ module _ {n C source K : ℕ} {arcs : List PlanArc} {holds : List ℕ} (r : Plan
   fit = omega arith
 
   fits : FitArcs arcs
-  fits = fit_arcs r.few_nodes r.low_ceiling r.arcs_in_lem
+  fits = fit_arcs r.few_nodes r.low_ceiling r.arcs_in
 
   held : FitFields holds
   held = fit_holds r.low_ceiling holds r.holds_low
@@ -56,7 +56,7 @@ module _ {n C source K : ℕ} {arcs : List PlanArc} {holds : List ℕ} (r : Plan
   -- ---- the lines behind line 1
 
   told_arcs_pass : (rest : List ℕ) → arcs_check n C (length arcs) 0 0 (render_arcs arcs ++ rest) ≡ Passed
-  told_arcs_pass rest = arc_lines_pass n C 0 0 arcs rest fits r.tails_rising r.arcs_in_lem
+  told_arcs_pass rest = arc_lines_pass n C 0 0 arcs rest fits r.tails_rising r.arcs_in
 
   held_pass : hold_lines_check C (length arcs) n 0 (render_holds holds) ≡ Passed
   held_pass = rw (sym r.holds_length, sym (append-nil (render_holds holds))) (hold_lines_pass C (length arcs) 0 holds [] held r.holds_low)

@@ -39,8 +39,8 @@ module _ (bytes : List ℕ) (short : length bytes ≤ 65536) {l : PlanLists} (le
   module _ {n m C K : ℕ} {source : Node} (a : answer ≡ Read n m C source K) where
     pub both_read : BothRunnable n m C source.0 K (map_in l starts' heads' costs' holds')
     both_read = record {
-      one_level_lem = map_read bytes short lent P a one tt (omega arith);
-      two_level_lem = map_read bytes short lent P a (two K) (subst (λ (k : ℕ). Allowed (two k)) (sym (segments_told P a)) (file_allowed (runnable bytes short lent P a))) (omega arith);
+      one_level = map_read bytes short lent P a one tt (omega arith);
+      two_level = map_read bytes short lent P a (two K) (subst (λ (k : ℕ). Allowed (two k)) (sym (segments_told P a)) (file_allowed (runnable bytes short lent P a))) (omega arith);
     }
 
     pub map_answered : {distances' parents' roster' work' output output' : List ℕ} {written : ℕ} → let l' = plan_lists starts' heads' costs' holds' distances' parents' roster' work' in

@@ -74,7 +74,7 @@ module _ (bytes : List ℕ) (short : length bytes ≤ 65536) {l : PlanLists} (le
       accepted =
           subst (λ (I : Inputs). first_fault (run_checks L I (plan_lengths l)) ≡ Passed) (sym inputs_read)
           (runs_pass runnable L allowed (plan_lengths l) (omega (arith, few, lent.distances_words)) (omega (arith, few, lent.parents_words))
-          (omega (arith, few, lent.roster_words)) (omega (arith, few, lent.work_words_lem, words)));
+          (omega (arith, few, lent.roster_words)) (omega (arith, few, lent.work_words, words)));
     }
 
     -- The map of the file, and behind it what its last run leaves.

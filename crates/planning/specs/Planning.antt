@@ -26,7 +26,7 @@ unfoldable pub planning_check : (bytes : List ℕ) → Check
 planning_check bytes = cond (ltb most_bytes (length bytes)) (Fault 13 0) (plan_check bytes 513 2048 2048 512)
 
 -- The answer's text for m arcs and K, of the steps of both heaps over what the runs are given. Decreases, distances and parents are equal
--- for both, and the one_level_lem heap's are told (document 01, "Planning file"; document 02, paper 3).
+-- for both, and the one-level heap's are told (document 01, "Planning file"; document 02, paper 3).
 abbrev pub heaps_text : (m K : ℕ) → Inputs → List ℕ
 heaps_text m K I =
     let first = steps_of one I in
@@ -76,7 +76,7 @@ abbrev pub lent_of : PlanLists → Lent
 lent_of l = lent l.distances l.parents l.roster l.work
 
 -- What a run of this kind of heap leaves in the lists, whose checks come to `check`. Distances, parents and roster are equal for all kinds, and
--- the one_level_lem heap's are named (document 01, "What the planner holds and leaves out"; document 02, paper 6).
+-- the one-level heap's are named (document 01, "What the planner holds and leaves out"; document 02, paper 6).
 pub record RunLeft (check : Check) (L : Levels) (I : Inputs) (l l' : Lent) : Type 0 where
   pub distances_after : l'.distances ≡ words_after check (steps_of one I).search.distances l.distances
   pub parents_after : l'.parents ≡ words_after check (steps_of one I).search.parents l.parents
@@ -92,7 +92,7 @@ pub record ListsLeft (check : Check) (plan : Plan) (L : Levels) (l l' : PlanList
   pub holds_after : l'.holds ≡ words_after check (plan_holds plan) l.holds
   pub run_after : RunLeft check L (plan_run plan) (lent_of l) (lent_of l')
 
--- The text is written, and the lists hold the map and what the runs leave; the two_level_lem run is made behind the one_level_lem run (document 01,
+-- The text is written, and the lists hold the map and what the runs leave; the two-level run is made behind the one-level run (document 01,
 -- "Planning file").
 pub record Answered (check : Check) (plan : Plan) (l l' : PlanLists) (output output' : List ℕ) (bytes : ℕ) : Type 0 where
   pub text : Writes 0 (plan_answer_text check plan) output output' bytes
@@ -114,7 +114,7 @@ pub record WordsLent (l : PlanLists) : Type 0 where
   pub distances_words : length l.distances ≡ 512
   pub parents_words : length l.parents ≡ 512
   pub roster_words : length l.roster ≡ 512
-  pub work_words_lem : length l.work ≡ 2432
+  pub work_words : length l.work ≡ 2432
 
 -- `plan` lends besides the bytes of its output, which are enough for every answer (document 01, "Planning file").
 pub record PlanLends (l : PlanLists) (output : List ℕ) : Type 0 where
@@ -162,8 +162,8 @@ pub record MapRunnable (L : Levels) (n m C source : ℕ) (l : PlanLists) : Type 
 
 -- One that both runs accept (document 01, "Planning file").
 pub record BothRunnable (n m C source K : ℕ) (l : PlanLists) : Type 0 where
-  pub one_level_lem : MapRunnable one n m C source l
-  pub two_level_lem : MapRunnable (two K) n m C source l
+  pub one_level : MapRunnable one n m C source l
+  pub two_level : MapRunnable (two K) n m C source l
 
 -- Both runs with K are made, and have returned these numbers (document 01, "What a call returns").
 pub record BothReturned (K : ℕ) (I : Inputs) (l l' : PlanLists) (first second : Numbers) : Type 0 where

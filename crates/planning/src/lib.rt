@@ -11,7 +11,7 @@ use reader::PlanAnswer;
 use report::HeapNumbers;
 
 // What a run has returned: number and place, then its numbers.
-#[derive(Drop)]
+#[derive(Clone, Copy)]
 pub struct RunNumbers {
     pub returned: u32,
     pub place: usize,
@@ -21,7 +21,7 @@ pub struct RunNumbers {
 }
 
 // What both runs have returned.
-#[derive(Drop)]
+#[derive(Clone, Copy)]
 pub struct BothNumbers {
     pub one: RunNumbers,
     pub two: RunNumbers,
@@ -103,7 +103,7 @@ fn write_runs(
     )
 }
 
-// Both runs of the map in the lists, the two_level_lem run behind the one_level_lem run.
+// Both runs of the map in the lists, the two-level run behind the one-level run.
 fn run_both(
     nodes: u32,
     arcs: u32,

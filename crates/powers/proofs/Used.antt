@@ -1,11 +1,11 @@
--- Every entry that the two_level_lem heap uses is a power: the sizes and the widths of the buckets below the last. Assumes nothing.
+-- Every entry that the two-level heap uses is a power: the sizes and the widths of the buckets below the last. Assumes nothing.
 use Prim.Native.Nat.{ℕ, zero, suc, ◌+◌, ◌-◌, ◌^◌, ◌≤◌, ◌<◌}
 use native.Mathlib.Omega.{arith}
 use native.Mathlib.Nat.{pow-zero}
 use mathlib.Core.Path.{◌≡◌, ◌∙◌}
 use mathlib.Core.Logic.{◌⊎◌, inl, inr}
 use lib.ListN.{get_or}
-use Rattle.theory.specs.Shape.{ceil_log, two_level_buckets}
+use Rattle.theory.specs.Shape.{two_level_buckets}
 use Rattle.theory.proofs.Shapes.Logarithm.{ceil_log_least, two_level_most}
 use Rattle.powers.specs.Powers.{power_row}
 use Rattle.powers.proofs.Rule.{power_is, row_at}

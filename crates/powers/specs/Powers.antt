@@ -1,4 +1,4 @@
--- The powers of the number of segments K, as the two_level_lem heap uses them (document 01, "Two-level heap (000, section 3)").
+-- The powers of the number of segments K, as the two-level heap uses them (document 01, "Two-level heap (000, section 3)").
 -- Assumes nothing.
 use Rattle.std.specs.Prelude.{cond, ◌&&◌, ◌||◌, List, [], ◌∷◌, ℕ, zero, suc, ◌-◌, ◌^◌, leb, ltb, eqb, replicate}
 

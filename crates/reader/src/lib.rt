@@ -11,7 +11,7 @@ use plan_lines::HeaderLine;
 mod filling;
 
 // What the reader gives back.
-#[derive(Drop)]
+#[derive(Clone, Copy)]
 pub enum PlanAnswer {
     Read {
         nodes: u32,

@@ -50,6 +50,6 @@ module _ {layout : Layout} {sizes : List ℕ} {X : Setting layout sizes} {before
   pub looks_few : s.tally.looks ≤ 352256
   looks_few =
       let r : length h.search.roster ≤ 4096 = omega (arith, R.stands.reached, reached_low, nodes_few) in
-      let b : length h.search.roster * (X.shape.buckets + X.segment_looks_lem) ≤ length h.search.roster * 86 =
+      let b : length h.search.roster * (X.shape.buckets + X.segment_looks) ≤ length h.search.roster * 86 =
       mul-le-mul_left (length h.search.roster) (omega (arith, buckets_few, X.few_looks)) in
       omega (arith, same_looks R.stands.tally, R.resting.counted.looks)

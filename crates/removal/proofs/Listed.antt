@@ -93,7 +93,7 @@ module _ {layout : Layout} {sizes : List ℕ} {X : Setting layout sizes} {before
     slot = slot_of K j k
 
     low : v < n
-    low = found.in_slot_lem.0
+    low = found.in_slot.0
 
     min : Least h.search v key
     min = listed_min X R.stands R.resting.rest R.resting.inv R.long none_current g.slot b.lower g.earlier found
@@ -108,7 +108,7 @@ module _ {layout : Layout} {sizes : List ℕ} {X : Setting layout sizes} {before
     key_of_lem = key_word_lem X R.stands R.resting.rest R.resting.inv none_current
 
     pub held : 512 ≤ place v
-    held = rw found.in_slot_lem.1 (word_far K j k)
+    held = rw found.in_slot.1 (word_far K j k)
 
     after_front : s.front < key
     after_front =

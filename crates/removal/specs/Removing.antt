@@ -11,7 +11,7 @@ use Rattle.removal.specs.declared.Removed.{Removed}
 -- The words stand for a heap between two removals, with a node labelled (document 01, "The tallies").
 pub record Rests {layout : Layout} {sizes : List ℕ} (X : Setting layout sizes) (before : List ℕ) (h : Heap) (l : Lists) (s : State) : Type 0 where
   pub stands : Stands layout X.shape before h l s
-  pub resting : Resting X.network X.shape X.ceiling X.segment_looks_lem s.front h
+  pub resting : Resting X.network X.shape X.ceiling X.segment_looks s.front h
   pub long : layout.nodes ≤ length before
   pub node : ℕ
   pub labelled : Labelled h.search node

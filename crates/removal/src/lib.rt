@@ -9,7 +9,7 @@ use model::Node;
 use state::{Layout, State};
 
 // The node that was removed, and the run's numbers after it.
-#[derive(Drop)]
+#[derive(Clone, Copy)]
 pub struct Removed {
     pub node: Node,
     pub state: State,

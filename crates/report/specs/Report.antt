@@ -7,11 +7,11 @@ use Rattle.fields.specs.Fields.{comma, line_feed, decimal, render_line}
 abbrev pub word_refused : List ℕ
 word_refused = 114 ∷ 101 ∷ 102 ∷ 117 ∷ 115 ∷ 101 ∷ 100 ∷ []
 
--- The word of the one_level_lem heap, `one` (document 01, "Planning file").
+-- The word of the one-level heap, `one` (document 01, "Planning file").
 abbrev pub word_one : List ℕ
 word_one = 111 ∷ 110 ∷ 101 ∷ []
 
--- The word of the two_level_lem heap, `two` (document 01, "Planning file").
+-- The word of the two-level heap, `two` (document 01, "Planning file").
 abbrev pub word_two : List ℕ
 word_two = 116 ∷ 119 ∷ 111 ∷ []
 

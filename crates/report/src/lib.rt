@@ -10,7 +10,7 @@ use fields::writing::{put_byte, put_bytes, put_field};
 use model::{Arc, Node};
 
 // What a heap's line tells of its run.
-#[derive(Drop)]
+#[derive(Clone, Copy)]
 pub struct HeapNumbers {
     pub buckets: u32,
     pub placements: u32,

@@ -15,11 +15,11 @@ use Rattle.reversal.proofs.Routes.{backwards_snoc, old_leaves, routes_reversed}
 
 -- ---- what parents spell out from a node on
 
-spelled_to_route : {M : Map} {d v : ℕ} {parents route : List ℕ} → SpelledTo M d parents v route → Route M v route d
+spelled_to_route : {M : Map} {d : ℕ} {parents : List ℕ} {v : ℕ} {route : List ℕ} → SpelledTo M d parents v route → Route M v route d
 spelled_to_route SpelledTo.here = Route.here
 spelled_to_route (SpelledTo.along a e h n r) = Route.along a h (spelled_to_route r)
 
-same_spelled_to : {M : Map} {d v w : ℕ} {parents route route' : List ℕ} → SpelledTo M d parents v route → SpelledTo M d parents w route' → v ≡ w
+same_spelled_to : {M : Map} {d : ℕ} {parents : List ℕ} {v w : ℕ} {route route' : List ℕ} → SpelledTo M d parents v route → SpelledTo M d parents w route' → v ≡ w
     → route ≡ route'
 same_spelled_to SpelledTo.here SpelledTo.here e = refl
 same_spelled_to SpelledTo.here (SpelledTo.along b q g k s) e = absurd (k e)
@@ -36,7 +36,7 @@ module _ {M : Map} {s : ℕ} (sound : Sound M s) where
   old_parent_none : (parents : List ℕ) (v : ℕ) → parent_of parents v ≡ none → parent_of (old_parents M parents) v ≡ none
   old_parent_none parents v e = old_parent parents v ∙ ap (old_number M) e ∙ old_none sound
 
-  spelled_back : {v : ℕ} {parents route : List ℕ} → SpelledRoute (reversed M) s parents v route
+  spelled_back : {parents : List ℕ} {v : ℕ} {route : List ℕ} → SpelledRoute (reversed M) s parents v route
       → SpelledTo M s (old_parents M parents) v (old_route M route)
   unfolding backwards
   spelled_back SpelledRoute.here = SpelledTo.here

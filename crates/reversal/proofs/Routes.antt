@@ -53,21 +53,31 @@ module _ {M : Map} {s : ℕ} (sound : Sound M s) where
   back Route.here = Route.here
   back (Route.along {v = w} p h r) = rw (leaves_old sound p w h) at (route_snoc (old_number M p) (back r) (old_leaves p w h))
 
-  same_cost : {v w : ℕ} {route : List ℕ} → Route M v route w → route_cost (reversed M) (new_route M route) ≡ route_cost M route
+  first_leaves : {v w b : ℕ} {route : List ℕ} → Route M v (b ∷ route) w → Leaves M b v
+  first_leaves (Route.along b g r) = g
+
+  -- One arc more in front.
+  same_cost_along : (v : ℕ) {w : ℕ} (a : ℕ) (route : List ℕ) → Leaves M a v → Route M (head_of M a) route w
+      → route_cost (reversed M) (new_route M route) ≡ route_cost M route
+      → route_cost (reversed M) (new_route M (a ∷ route)) ≡ route_cost M (a ∷ route)
   unfolding backwards route_cost arcs_cost holds_cost nodes_between
-  same_cost Route.here = refl
-  same_cost (Route.along {v} a h Route.here) = cost_alone (reversed M) (new_number M a) ∙ new_cost_is a v h ∙ sym (cost_alone M a)
-  same_cost (Route.along {v} a h (Route.along {route = route} b g r)) =
+  same_cost_along v a [] h r e = cost_alone (reversed M) (new_number M a) ∙ new_cost_is a v h ∙ sym (cost_alone M a)
+  same_cost_along v a (b ∷ route) h r e =
       let held : end_hold (reversed M) (new_route M (b ∷ route)) ≡ hold_of M (head_of M a) =
-      unfold reversed in (end_snoc (reversed M) (new_route M route) (new_number M b) ∙ ap (hold_of M) (new_head_is b (head_of M a) g)) in
+      unfold reversed in (end_snoc (reversed M) (new_route M route) (new_number M b) ∙ ap (hold_of M) (new_head_is b (head_of M a) (first_leaves r))) in
       omega (
         arith,
         cost_snoc (reversed M) (new_route M (b ∷ route)) (new_number M a),
         held,
         new_cost_is a v h,
-        same_cost (Route.along b g r),
+        e,
         cost_cons M a b route,
       )
+
+  same_cost : {v w : ℕ} {route : List ℕ} → Route M v route w → route_cost (reversed M) (new_route M route) ≡ route_cost M route
+  unfolding backwards route_cost arcs_cost holds_cost nodes_between
+  same_cost Route.here = refl
+  same_cost (Route.along {v} {route = route} a h r) = same_cost_along v a route h r (same_cost r)
 
   pub routes_reversed : RoutesReversed M
   routes_reversed = record {

@@ -26,11 +26,11 @@ pub record RunHanded (L : Levels) (I : Inputs) (l l' : Lent) (numbers' : List �
   pub promised : Promised L I answer l l'
   pub numbers : numbers' ≡ run_words (numbers_of answer)
 
--- The one_level_lem run (document 01, "One-level heap").
+-- The one-level run (document 01, "One-level heap").
 abbrev pub OneLevelHanded : Inputs → (l l' : Lent) → (numbers' : List ℕ) → Type 0
 OneLevelHanded = RunHanded one
 
--- The two_level_lem run (document 01, "Two-level heap").
+-- The two-level run (document 01, "Two-level heap").
 abbrev pub TwoLevelHanded : (K : ℕ) → Inputs → (l l' : Lent) → (numbers' : List ℕ) → Type 0
 TwoLevelHanded K = RunHanded (two K)
 
@@ -40,11 +40,11 @@ pub record RunToHanded (L : Levels) (I : Inputs) (l l' : LentTo) (numbers' : Lis
   pub promised : PromisedTo L I answer l l'
   pub numbers : numbers' ≡ run_words (numbers_of answer)
 
--- The one_level_lem run to a destination (document 02, paper 7).
+-- The one-level run to a destination (document 02, paper 7).
 abbrev pub OneLevelToHanded : Inputs → (l l' : LentTo) → (numbers' : List ℕ) → Type 0
 OneLevelToHanded = RunToHanded one
 
--- The two_level_lem run to a destination (document 02, paper 7).
+-- The two-level run to a destination (document 02, paper 7).
 abbrev pub TwoLevelToHanded : (K : ℕ) → Inputs → (l l' : LentTo) → (numbers' : List ℕ) → Type 0
 TwoLevelToHanded K = RunToHanded (two K)
 

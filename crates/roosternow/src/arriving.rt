@@ -6,7 +6,7 @@ ghost use Rattle.roosternow.specs.Handing.{OneLevelToHanded, TwoLevelToHanded};
 use answer_words::run_words;
 use model::Node;
 
-// The one_level_lem run to a destination.
+// The one-level run to a destination.
 #[unsafe(no_mangle)]
 pub extern "C" fn roosternow_one_level_to(
     n: u32,
@@ -53,7 +53,7 @@ pub extern "C" fn roosternow_one_level_to(
     *numbers = run_words(one);
 }
 
-// The two_level_lem run to a destination.
+// The two-level run to a destination.
 #[unsafe(no_mangle)]
 pub extern "C" fn roosternow_two_level_to(
     n: u32,

@@ -24,7 +24,7 @@ pub extern "C" fn roosternow_version() -> u32
     VERSION
 }
 
-// The one_level_lem run.
+// The one-level run.
 #[unsafe(no_mangle)]
 pub extern "C" fn roosternow_one_level(
     n: u32,
@@ -60,7 +60,7 @@ pub extern "C" fn roosternow_one_level(
     *numbers = run_words(one);
 }
 
-// The two_level_lem run.
+// The two-level run.
 #[unsafe(no_mangle)]
 pub extern "C" fn roosternow_two_level(
     n: u32,

@@ -10,7 +10,7 @@ use model::{Check, Node};
 use walk::Walked;
 
 // What a route gives back.
-#[derive(Drop)]
+#[derive(Clone, Copy)]
 pub enum RouteAnswer {
     Found { nodes: usize },
     Refused { number: u32, place: usize },

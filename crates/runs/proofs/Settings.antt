@@ -117,7 +117,7 @@ module _ {L : Levels} {I : Inputs} {room : Lengths} (ready : Ready L I room) whe
     network = network I.map I.source;
     shape = shape_of L n C;
     ceiling = C;
-    segment_looks_lem = most_segment_looks L;
+    segment_looks = most_segment_looks L;
     few_looks = few_looks n C ready.valid.low_ceiling L ready.allowed;
     arcs = arcs I.map;
     admissible = map_admissible ready.valid;

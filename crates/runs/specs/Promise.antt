@@ -55,11 +55,11 @@ pub record Ran (L : Levels) (I : Inputs) (check : Check) (r : RunAnswer) (l l' :
 abbrev pub Promised : Levels → Inputs → RunAnswer → (l l' : Lent) → Type 0
 Promised L I r l l' = Ran L I (first_fault (run_checks L I (lengths_of l))) r l l'
 
--- The one_level_lem run for every input: checks 1 to 6, 20, 7, 8 and 10 in order (document 01, "What a call returns"; document 02,
+-- The one-level run for every input: checks 1 to 6, 20, 7, 8 and 10 in order (document 01, "What a call returns"; document 02,
 -- paper 2).
 abbrev pub OneLevelPromised : Inputs → RunAnswer → (l l' : Lent) → Type 0
 OneLevelPromised = Promised one
 
--- The two_level_lem run for every input: checks 1 to 6, 20, 7 to 10 in order (document 01, "What a call returns"; document 02, paper 2).
+-- The two-level run for every input: checks 1 to 6, 20, 7 to 10 in order (document 01, "What a call returns"; document 02, paper 2).
 abbrev pub TwoLevelPromised : (K : ℕ) → Inputs → RunAnswer → (l l' : Lent) → Type 0
 TwoLevelPromised K = Promised (two K)

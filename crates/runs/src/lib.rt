@@ -114,7 +114,7 @@ fn steps(
     model::accepted_run(state.reached, buckets, counts(state.tally))
 }
 
-// The one_level_lem run of inputs and lists that have passed the checks.
+// The one-level run of inputs and lists that have passed the checks.
 pub fn one_level_steps(
     n: u32,
     ceiling: u32,
@@ -143,7 +143,7 @@ pub fn one_level_steps(
     )
 }
 
-// The two_level_lem run of inputs and lists that have passed the checks.
+// The two-level run of inputs and lists that have passed the checks.
 pub fn two_level_steps(
     n: u32,
     ceiling: u32,
@@ -173,7 +173,7 @@ pub fn two_level_steps(
     )
 }
 
-// The one_level_lem run.
+// The one-level run.
 pub fn one_level(
     n: u32,
     ceiling: u32,
@@ -212,7 +212,7 @@ pub fn one_level(
     )
 }
 
-// The two_level_lem run.
+// The two-level run.
 pub fn two_level(
     n: u32,
     ceiling: u32,

@@ -28,7 +28,7 @@ pub record Steps {layout : Layout} {sizes : List ℕ} (X : Setting layout sizes)
   pub sound : Sound M source
   pub network_is : X.network ≡ network M source
   pub stands : Stands layout X.shape before h l s
-  pub resting : Resting X.network X.shape X.ceiling X.segment_looks_lem s.front h
+  pub resting : Resting X.network X.shape X.ceiling X.segment_looks s.front h
   pub long : layout.nodes ≤ length before
   pub left : ℕ
   pub enough : left + length h.search.roster ≡ X.network.nodes

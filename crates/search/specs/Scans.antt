@@ -18,7 +18,7 @@ links_between heads costs hold first last = links_from (arc_links heads (λ a. g
 -- (document 01, "The search").
 pub record Scans {layout : Layout} {sizes : List ℕ} (X : Setting layout sizes) (before : List ℕ) (u : ℕ) (h : Heap) (l : Lists) (s : State) (heads costs : List ℕ) (hold first last : ℕ) : Type 0 where
   pub stands : Stands layout X.shape before h l s
-  pub relaxing : Relaxing X.network X.shape X.ceiling X.segment_looks_lem u s.front (links_between heads costs hold first last) h
+  pub relaxing : Relaxing X.network X.shape X.ceiling X.segment_looks u s.front (links_between heads costs hold first last) h
   pub members : (k : Link) → Memᴰ k (links_between heads costs hold first last) → Memᴰ k (X.network.out u)
   pub rising : first ≤ last
   pub heads_long : last ≤ length heads

@@ -22,7 +22,7 @@ fn ceil_log(base: u32, ceiling: u32) -> u32
     exponent
 }
 
-// B of the one_level_lem heap.
+// B of the one-level heap.
 pub fn one_level_buckets(ceiling: u32) -> u32
     requires { ceiling ≤ 1048575 }
     ensures { result ≡ one_level_buckets ceiling }
@@ -30,7 +30,7 @@ pub fn one_level_buckets(ceiling: u32) -> u32
     ceil_log(2, ceiling) + 2
 }
 
-// B of the two_level_lem heap.
+// B of the two-level heap.
 pub fn two_level_buckets(ceiling: u32, segments: u32) -> u32
     requires ceiling_bound { ceiling ≤ 1048575 }
     requires le_segments { 2 ≤ segments }
@@ -41,7 +41,7 @@ pub fn two_level_buckets(ceiling: u32, segments: u32) -> u32
     if exponent < 1 { 2 } else { exponent + 1 }
 }
 
-// The sizes of the buckets of the one_level_lem heap.
+// The sizes of the buckets of the one-level heap.
 pub fn one_level_sizes() -> [u32; 22]
     ensures { result ≡ one_level_sizes }
 {
@@ -51,7 +51,7 @@ pub fn one_level_sizes() -> [u32; 22]
     ]
 }
 
-// The sizes of the buckets of the two_level_lem heap: the powers of K = segments, and a 0 at the last place, which is no bucket's.
+// The sizes of the buckets of the two-level heap: the powers of K = segments, and a 0 at the last place, which is no bucket's.
 pub fn two_level_sizes(segments: u32) -> [u32; 22]
     ensures { result ≡ two_level_sizes segments }
 {

@@ -154,7 +154,7 @@ module _ {layout : Layout} {sizes : List ℕ} (X : Setting layout sizes) {before
         (earlier : (m w : ℕ) → 1 ≤ m → m < k → InSlot n K (slot_of K j m) l.words w → ⊥)
         (found : Answer.LeastIn n K (slot_of K j k) l.words l.distances v) where
       v_is : Labelled h.search v × (key_of h v ≢ s.front) × (bucket_of h v ≡ j) × (segment_of sh h v ≡ k)
-      v_is = slot_word_lem v j k fit found.in_slot_lem.0 found.in_slot_lem.1
+      v_is = slot_word_lem v j k fit found.in_slot.0 found.in_slot.1
 
       bucket_up : (w : ℕ) → Labelled h.search w → j ≤ bucket_of h w
       bucket_up w on = elim (split (bucket_of h w) j) [
@@ -172,7 +172,7 @@ module _ {layout : Layout} {sizes : List ℕ} (X : Setting layout sizes) {before
       in_slot_lem w on e q = (node w on, listed_word w on (later w on) ∙ cc (e, q))
 
       ordered : (w : ℕ) → InSlot n K (slot_of K j k) l.words w → (key_of h v < key_of h w) ⊎ ((key_of h v ≡ key_of h w) × (v ≤ w))
-      ordered w i = rw (key_word_lem v found.in_slot_lem.0, key_word_lem w i.0) at (found.before w i)
+      ordered w i = rw (key_word_lem v found.in_slot.0, key_word_lem w i.0) at (found.before w i)
 
       same_seg : (w : ℕ) → Labelled h.search w → bucket_of h w ≡ j → key_of h w ≤ key_of h v → segment_of sh h w ≤ k
       same_seg w on e q =

@@ -20,11 +20,11 @@ pub record Setting (layout : Layout) (sizes : List ℕ) : Type 0 where
   pub network : Network
   pub shape : Shape
   pub ceiling : ℕ
-  pub segment_looks_lem : ℕ
-  pub few_looks : segment_looks_lem ≤ 64
+  pub segment_looks : ℕ
+  pub few_looks : segment_looks ≤ 64
   pub arcs : ℕ
   pub admissible : Admissible network ceiling arcs
-  pub lawful : Lawful shape ceiling segment_looks_lem
+  pub lawful : Lawful shape ceiling segment_looks
   pub room : network.nodes * ceiling ≤ shape.top
   pub agrees : Agrees shape layout.buckets layout.segments sizes
   pub nodes : network.nodes ≡ layout.nodes

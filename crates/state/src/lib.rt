@@ -9,7 +9,7 @@ mod counts;
 use counts::{count_decrease, count_insertion, count_looks, count_reads, count_shift};
 
 // n, B, the segments of a bucket below the last (1 for one level), and the segments of all buckets.
-#[derive(Drop)]
+#[derive(Clone, Copy)]
 pub struct Layout {
     pub nodes: usize,
     pub buckets: usize,
@@ -19,7 +19,7 @@ pub struct Layout {
 
 // The counts of a run (document 01, "The tallies"; document 02, paper 3: reads). In this order the compiler keeps them out of memory
 // (docs/DECISIONS.md).
-#[derive(Drop)]
+#[derive(Clone, Copy)]
 pub struct Tally {
     pub looks: u32,
     pub shifts: u32,
@@ -29,7 +29,7 @@ pub struct Tally {
 }
 
 // The distance scanned last, how many labelled nodes have it, how many nodes are scanned, and the tallies.
-#[derive(Drop)]
+#[derive(Clone, Copy)]
 pub struct State {
     pub front: u32,
     pub current: u32,

@@ -7,7 +7,7 @@ use test_reference_files::{printing, reading};
 use test_reference_map::words;
 
 // A file's bytes, and how many of them it has.
-#[derive(Drop)]
+#[derive(Clone, Copy)]
 pub struct Rendered {
     pub bytes: Text,
     pub length: u64,
@@ -20,7 +20,7 @@ const NOTHING: u64 = 256;
 
 // What a damaged file is put together from: the bytes up to a place, a byte, and the bytes between two places, twice, then those from a
 // place to the end.
-#[derive(Drop)]
+#[derive(Clone, Copy)]
 struct Pieces {
     end: u64,
     byte: u64,

@@ -3,7 +3,7 @@
 use test_reference_map::nodes::Table;
 use test_reference_map::{nodes, words};
 
-// K is `segments`, B is `buckets`, nC + 1 is `top`. The one_level_lem heap has one segment to a bucket.
+// K is `segments`, B is `buckets`, nC + 1 is `top`. The one-level heap has one segment to a bucket.
 #[derive(Clone, Copy)]
 pub struct Heap {
     pub levels: u64,

@@ -105,7 +105,7 @@ fn shift_all(heap: Heap, n: u64, table: &mut Table, j: u64, k: u64) {
     }
 }
 
-// The buckets examined up to j, and in the two_level_lem heap the segments examined up to k.
+// The buckets examined up to j, and in the two-level heap the segments examined up to k.
 fn looks(heap: Heap, j: u64, k: u64) -> u64 {
     if heap.levels == 2 {
         return words::sum(j, k);

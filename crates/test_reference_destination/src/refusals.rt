@@ -7,7 +7,7 @@ use test_reference_map::{map, words};
 use test_reference_search::refusals;
 
 // How many words are lent of each list of the reversed map.
-#[derive(Drop)]
+#[derive(Clone, Copy)]
 pub struct ReversedWords {
     pub starts: u32,
     pub heads: u32,

@@ -10,7 +10,7 @@ use test_reference_map::{nodes, words};
 use test_reference_search::dijkstra;
 
 // The differing nodes are those at which the references do not agree, of which there are none.
-#[derive(Drop)]
+#[derive(Clone, Copy)]
 pub struct Searched {
     pub counts: Counts,
     pub differing: u64,

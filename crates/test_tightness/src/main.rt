@@ -215,7 +215,7 @@ fn over(a: u32, b: u32) -> u32 {
 }
 
 // One arc of cost C leads to node 1, and from there one to each other node, all of the same distance but a few. Those few are the least of
-// each bucket in turn, so that with each of them all others fall one bucket. Here by the sizes of the one_level_lem heap.
+// each bucket in turn, so that with each of them all others fall one bucket. Here by the sizes of the one-level heap.
 fn fall_by_halves(rt: &impl Print) -> io::Result<()> {
     let mut starts = [4095u32; 4097];
     starts[0] = 0;
@@ -238,7 +238,7 @@ fn fall_by_halves(rt: &impl Print) -> io::Result<()> {
     )
 }
 
-// The same by the sizes of the two_level_lem heap with K = 32, whose segment of the last bucket but one is 32,768 keys wide.
+// The same by the sizes of the two-level heap with K = 32, whose segment of the last bucket but one is 32,768 keys wide.
 fn fall_by_segments(rt: &impl Print) -> io::Result<()> {
     let mut starts = [4095u32; 4097];
     starts[0] = 0;

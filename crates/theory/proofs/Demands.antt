@@ -166,7 +166,7 @@ module _ {I : Inputs} (valid : ValidInputs I) (L : Levels) (s : Segmented L) whe
 pub heaps_agree : {I : Inputs} → ValidInputs I → (L L' : Levels) → Segmented L → Segmented L' → (steps_of L I).search ≡ (steps_of L' I).search
 heaps_agree valid L L' s s' = run_search valid L s ∙ sym (run_search valid L' s')
 
--- The one_level_lem run, and the two_level_lem run for every K of document 01.
+-- The one-level run, and the two-level run for every K of document 01.
 pub one_level_demanded : {I : Inputs} → ValidInputs I → Demanded I.map I.source (one_level_buckets I.ceiling) (one_level_buckets I.ceiling) (steps_of one I)
 one_level_demanded valid = run_demanded valid one tt
 

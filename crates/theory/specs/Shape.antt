@@ -26,11 +26,11 @@ log_from (suc fuel) b x e = cond (leb x (b ^ e)) e (log_from fuel b x (suc e))
 unfoldable pub ceil_log : (b x : ℕ) → ℕ
 ceil_log b x = log_from 20 b x 0
 
--- B of the one_level_lem heap (document 01, "One-level heap").
+-- B of the one-level heap (document 01, "One-level heap").
 unfoldable pub one_level_buckets : ℕ → ℕ
 one_level_buckets C = ceil_log 2 (C + 1) + 2
 
--- The one_level_lem heap (document 01, "One-level heap"): bucket 1 has size 1, bucket i size 2^(i - 2); a bucket is one segment,
+-- The one-level heap (document 01, "One-level heap"): bucket 1 has size 1, bucket i size 2^(i - 2); a bucket is one segment,
 -- and a look at a segment is not counted.
 unfoldable pub one_level : (n C : ℕ) → Shape
 one_level n C = record {
@@ -42,11 +42,11 @@ one_level n C = record {
   looks = λ k. 0;
 }
 
--- B of the two_level_lem heap (document 01, "Two-level heap").
+-- B of the two-level heap (document 01, "Two-level heap").
 unfoldable pub two_level_buckets : (C K : ℕ) → ℕ
 two_level_buckets C K = max 2 (ceil_log K (C + 1) + 1)
 
--- The two_level_lem heap (document 01, "Two-level heap"): bucket i < B has size K^i and K segments of K^(i - 1) keys, counted from
+-- The two-level heap (document 01, "Two-level heap"): bucket i < B has size K^i and K segments of K^(i - 1) keys, counted from
 -- the top of its range; bucket B is one segment.
 unfoldable pub two_level : (n C K : ℕ) → Shape
 two_level n C K = record {

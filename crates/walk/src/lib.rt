@@ -9,7 +9,7 @@ ghost use Rattle.walk.specs.Walk.{Tailed, Walks, walked_of, walked_words, HasRoo
 use model::{Arc, Node};
 
 // How a walk back to the source ends: so many nodes are written, or none.
-#[derive(Drop)]
+#[derive(Clone, Copy)]
 pub enum Walked {
     Lost,
     NoRoom,

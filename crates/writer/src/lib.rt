@@ -11,7 +11,7 @@ ghost use Rattle.writer.specs.Promise.{Writable, TextAnswered, WritePromised};
 use model::{Check, Node};
 
 // The length of the file, or a refusal's number and place.
-#[derive(Drop)]
+#[derive(Clone, Copy)]
 pub enum WriteAnswer {
     Written { length: usize },
     Refused { number: u32, place: usize },

@@ -128,7 +128,7 @@ steps_chain n words (suc k) j (x ∷ l) c h =
 
 -- the walk has come to a word that holds q: best goes before each node of the slot that is not still to come
 pub record LeastWalk (n segments s : ℕ) (words keys : List ℕ) (best q : ℕ) : Type 0 where
-  pub in_slot_lem : InSlot n segments s words best
+  pub in_slot : InSlot n segments s words best
   from : ℕ
   here : get_or words from 0 ≡ q
   rest : List ℕ
@@ -166,7 +166,7 @@ module _ {n slots segments : ℕ} {words : List ℕ} (L : Linked n slots segment
           let f : suc (length r) ≤ n = few n (x ∷ r) o (chain_below n words (heads n + s) (x ∷ r) c) in
           subst (λ (k : ℕ). LeastWalk n segments s words keys k (get_or words k 0)) e
           (record {
-            in_slot_lem = held x (inl refl);
+            in_slot = held x (inl refl);
             from = x;
             here = refl;
             rest = r;
@@ -197,7 +197,7 @@ module _ {n segments s : ℕ} {words keys : List ℕ} {best q : ℕ} (W : LeastW
           let g' : steps n words q ≡ suc (length l) = ap (λ (k : ℕ). steps n words k) (sym W.here) ∙ g in
           subst (λ (k : ℕ). LeastWalk n segments s words keys r (get_or words k 0) × (steps n words (get_or words k 0) < steps n words q)) d (
             record {
-              in_slot_lem = ⊎_elim (λ (z : r ≡ best). subst (λ (k : ℕ). InSlot n segments s words k) (sym z) W.in_slot_lem)
+              in_slot = ⊎_elim (λ (z : r ≡ best). subst (λ (k : ℕ). InSlot n segments s words k) (sym z) W.in_slot)
                   (λ (z : r ≡ x). subst (λ (k : ℕ). InSlot n segments s words k) (sym z) (own x (inl refl))) rx.one;
               from = x;
               here = refl;
@@ -216,7 +216,7 @@ module _ {n segments s : ℕ} {words keys : List ℕ} {best q : ℕ} (W : LeastW
 
   pub walk_end : q ≡ 0 → LeastIn n segments s words keys best
   walk_end e =
-      record { in_slot_lem = W.in_slot_lem; before = λ u p. go W.rest W.chain u (W.seen u p) }
+      record { in_slot = W.in_slot; before = λ u p. go W.rest W.chain u (W.seen u p) }
     where
       go : (l : List ℕ) → Spells n words W.from l → (u : ℕ) → ListedIn u l ⊎ Before keys best u → Before keys best u
       go [] c u (inl i) = absurd i

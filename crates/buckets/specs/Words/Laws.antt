@@ -14,6 +14,7 @@ bucket_le segments slot = omega (arith, div-le_self slot segments)
 
 -- the slots of a bucket
 pub bucket_of_lem : (segments bucket slot : ℕ) → 0 < bucket → (bucket - 1) * segments ≤ slot → slot < bucket * segments → slot_bucket segments slot ≡ bucket
+bucket_of_lem segments zero slot h low high = elim h [ ]
 bucket_of_lem segments (suc b) slot h low high =
     let e : suc b - 1 ≡ b = omega arith in
     let d : slot / segments ≡ b = div-eq_of_lt-le segments (rw e at low) (omega arith) in
@@ -30,6 +31,7 @@ bucket_one slot = omega (arith, div-one slot)
 
 -- so many slots make so many buckets
 pub bucket_count_lem : (segments buckets : ℕ) → 0 < segments → 0 < buckets → bucket_count ((buckets - 1) * segments + 1) segments ≡ buckets
+bucket_count_lem segments zero hs hb = elim hb [ ]
 bucket_count_lem segments (suc b) hs hb =
     bucket_of_lem segments (suc b) ((suc b - 1) * segments + 1 - 1) hb (omega arith)
     (let e : suc b - 1 ≡ b = omega arith in rw e (omega arith))

@@ -35,11 +35,11 @@ module _ (b : tie.After-two-level-buckets) where
   abbrev s : tie.Start
   s = start (one b)
 
-  first_small : Small (most_reached s.args.nodes s.args.arcs) (one b).one_level_buckets_lem.result s.args.arcs
-  first_small = one_small (sized s) (one b).one_level_buckets_lem.ensures
+  first_small : Small (most_reached s.args.nodes s.args.arcs) (one b).one_level_buckets.result s.args.arcs
+  first_small = one_small (sized s) (one b).one_level_buckets.ensures
 
-  second-small : Small (most_reached s.args.nodes s.args.arcs) b.two_level_buckets_lem.result s.args.arcs
-  second-small = two_small (sized s) b.two_level_buckets_lem.ensures
+  second-small : Small (most_reached s.args.nodes s.args.arcs) b.two_level_buckets.result s.args.arcs
+  second-small = two_small (sized s) b.two_level_buckets.ensures
 
 write-heap-requires : tie.Need-write-heap-requires
 write-heap-requires c κs =
@@ -58,7 +58,7 @@ write-heap-requires-2 c κs =
         arith,
         (s b).pre.1,
         line.write-heap.ensures.behind,
-        heap_most word_one (s b).args.nodes (s b).args.arcs (one b).one_level_buckets_lem.result (one b).one_level_buckets_lem.result,
+        heap_most word_one (s b).args.nodes (s b).args.arcs (one b).one_level_buckets.result (one b).one_level_buckets.result,
       ),
     )
 
@@ -68,7 +68,7 @@ returns c =
     let line = written line-2 in
     let b = two line in
     let a = (s b).args in
-    writes_same (size_whole a.nodes a.arcs a.ceiling a.segments (one b).one_level_buckets_lem.ensures b.two_level_buckets_lem.ensures)
+    writes_same (size_whole a.nodes a.arcs a.ceiling a.segments (one b).one_level_buckets.ensures b.two_level_buckets.ensures)
     (writes_then line.write-heap.ensures line-2.write-heap2.ensures)
 
 pub write-size-spec : {M : Type 1} → statement M

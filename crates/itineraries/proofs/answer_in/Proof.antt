@@ -26,7 +26,7 @@ list-map-requires c κs =
     let found : tie.After-nodes = search rules in
     let r = map_read found in
     let lends = (start (short r)).requires in
-    (one_read _ (short r).if1.left lends.lists r.read.ensures found.nodes.given.1, (lends.route_words_lem, lends.output_bytes))
+    (one_read _ (short r).if1.left lends.lists r.read.ensures found.nodes.given.1, (lends.route_words, lends.output_bytes))
 
 returns-2 : tie.Need-returns-2
 returns-2 c =

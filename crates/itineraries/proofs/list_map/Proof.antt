@@ -18,13 +18,13 @@ write-routes-requires : tie.Need-write-routes-requires
 write-routes-requires c κs =
     let run : tie.After-one-level = search rules in
     let p = (start run).pre in
-    (omega (arith, p.0.nodes_fit, p.1.1), (p.1.0, run_routable p.0 _ run.one_level_lem.ensures))
+    (omega (arith, p.0.nodes_fit, p.1.1), (p.1.0, run_routable p.0 _ run.one_level.ensures))
 
 returns : tie.Need-returns
 returns c =
     let lines : tie.After-write-routes = search rules in
     let run = run_of lines in
-    run_listed (start run).pre.0 _ run.one_level_lem.ensures lines.write-routes.ensures.0 lines.write-routes.ensures.1
+    run_listed (start run).pre.0 _ run.one_level.ensures lines.write-routes.ensures.0 lines.write-routes.ensures.1
 
 pub list-map-spec : {M : Type 1} → statement M
 list-map-spec =

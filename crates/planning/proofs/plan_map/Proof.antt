@@ -14,8 +14,8 @@ write-runs-requires : tie.Need-write-runs-requires
 write-runs-requires c κs =
     let made : tie.After-run-both = search rules in
     let p = (start made).pre in
-    let ready = passed_ready p.0.one_level_lem.accepted in (
-      omega (arith, p.0.one_level_lem.nodes_fit, p.1),
+    let ready = passed_ready p.0.one_level.accepted in (
+      omega (arith, p.0.one_level.nodes_fit, p.1),
       (omega (arith, ready.distances_fit, made.run-both.kept), omega (arith, ready.parents_fit, made.run-both.kept)),
     )
 
@@ -23,7 +23,7 @@ returns : tie.Need-returns
 returns c =
     let made : tie.After-run-both = search rules in
     let written : tie.After-write-runs = search rules in
-    both_run _ _ _ _ (start made).pre.0.two_level_lem.accepted made.run-both.ensures written.write-runs.ensures
+    both_run _ _ _ _ (start made).pre.0.two_level.accepted made.run-both.ensures written.write-runs.ensures
 
 pub plan-map-spec : {M : Type 1} → statement M
 plan-map-spec =

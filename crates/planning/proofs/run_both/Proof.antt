@@ -21,8 +21,8 @@ returns c =
     let runnable = (start one).pre in
     let first : tie.After-numbers-of = search rules in
     let second : tie.After-numbers-of2 = search rules in
-    let kept = one.one_level_lem.kept in
-    both_returned _ _ _ _ runnable.two_level_lem.accepted runnable.one_level_lem.accepted one.one_level_lem.ensures r.two_level_lem.ensures
+    let kept = one.one_level.kept in
+    both_returned _ _ _ _ runnable.two_level.accepted runnable.one_level.accepted one.one_level.ensures r.two_level.ensures
     (omega (arith, kept)) (omega (arith, kept)) (omega (arith, kept)) (omega (arith, kept))
     first.Numbers-of.ensures second.numbers-of2.ensures
 
@@ -31,16 +31,16 @@ run-both-spec =
     tie.close
     (tie.spec
     (λ c. search rules)
-    (λ c. let s : tie.Start = search rules in sym (length-take-le _ _ s.pre.one_level_lem.starts_fit))
-    (λ c. let s : tie.Start = search rules in sym (length-take-le _ _ s.pre.one_level_lem.heads_fit))
-    (λ c. let s : tie.Start = search rules in sym (length-take-le _ _ s.pre.one_level_lem.costs_fit))
-    (λ c. let s : tie.Start = search rules in sym (length-take-le _ _ s.pre.one_level_lem.holds_fit))
+    (λ c. let s : tie.Start = search rules in sym (length-take-le _ _ s.pre.one_level.starts_fit))
+    (λ c. let s : tie.Start = search rules in sym (length-take-le _ _ s.pre.one_level.heads_fit))
+    (λ c. let s : tie.Start = search rules in sym (length-take-le _ _ s.pre.one_level.costs_fit))
+    (λ c. let s : tie.Start = search rules in sym (length-take-le _ _ s.pre.one_level.holds_fit))
     (λ c κs. search rules)
     (λ c κs. search rules)
     (λ c κs. search rules)
     (λ c κs. search rules)
-    (λ c. let two : tie.After-two-level = search rules in omega (arith, two.two_level_lem.kept, (one_of two).one_level_lem.kept))
-    (λ c. let two : tie.After-two-level = search rules in omega (arith, two.two_level_lem.kept, (one_of two).one_level_lem.kept))
-    (λ c. let two : tie.After-two-level = search rules in omega (arith, two.two_level_lem.kept, (one_of two).one_level_lem.kept))
-    (λ c. let two : tie.After-two-level = search rules in omega (arith, two.two_level_lem.kept, (one_of two).one_level_lem.kept))
+    (λ c. let two : tie.After-two-level = search rules in omega (arith, two.two_level.kept, (one_of two).one_level.kept))
+    (λ c. let two : tie.After-two-level = search rules in omega (arith, two.two_level.kept, (one_of two).one_level.kept))
+    (λ c. let two : tie.After-two-level = search rules in omega (arith, two.two_level.kept, (one_of two).one_level.kept))
+    (λ c. let two : tie.After-two-level = search rules in omega (arith, two.two_level.kept, (one_of two).one_level.kept))
     returns)

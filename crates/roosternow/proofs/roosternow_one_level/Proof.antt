@@ -7,7 +7,7 @@ returns : tie.Need-returns
 returns c =
     let told : tie.After-run-words = search rules in
     let done : tie.After-one-level = search rules in
-    record { answer = done.one_level_lem.result; promised = done.one_level_lem.ensures; numbers = told.run-words.ensures }
+    record { answer = done.one_level.result; promised = done.one_level.ensures; numbers = told.run-words.ensures }
 
 pub roosternow-one-level-spec : {M : Type 1} → statement M
 roosternow-one-level-spec =

@@ -7,7 +7,7 @@ returns : tie.Need-returns
 returns c =
     let told : tie.After-route-words = search rules in
     let done : tie.After-route = search rules in
-    record { answer = done.route.result; promised = done.route.ensures; numbers = told.route_words_lem.ensures }
+    record { answer = done.route.result; promised = done.route.ensures; numbers = told.route_words.ensures }
 
 pub roosternow-route-spec : {M : Type 1} → statement M
 roosternow-route-spec =

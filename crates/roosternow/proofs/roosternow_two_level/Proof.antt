@@ -7,7 +7,7 @@ returns : tie.Need-returns
 returns c =
     let told : tie.After-run-words = search rules in
     let done : tie.After-two-level = search rules in
-    record { answer = done.two_level_lem.result; promised = done.two_level_lem.ensures; numbers = told.run-words.ensures }
+    record { answer = done.two_level.result; promised = done.two_level.ensures; numbers = told.run-words.ensures }
 
 pub roosternow-two-level-spec : {M : Type 1} → statement M
 roosternow-two-level-spec =

@@ -1,4 +1,4 @@
--- The one_level_lem shape is lawful.
+-- The one-level shape is lawful.
 use Prim.Native.Nat.{ℕ, zero, suc, ◌+◌, ◌-◌, ◌^◌, ◌≤◌, ◌<◌}
 use native.Mathlib.Omega.{arith}
 use native.Mathlib.Nat.{one-le-pow}

@@ -1,4 +1,4 @@
--- The two_level_lem shape is lawful.
+-- The two-level shape is lawful.
 use Prim.Native.Nat.{ℕ, zero, suc, ◌+◌, ◌-◌, ◌*◌, ◌^◌, ◌/◌, ◌≤◌, ◌<◌}
 use native.Mathlib.Omega.{arith}
 use native.Mathlib.Nat.{one-le-pow, pow-zero, pow-suc, pow-le-pow_right, mul-le-mul_right, div-lt_iff_lt-mul, div-mul-le_self, lt-div-mul-add, le-div_iff_mul-le}

@@ -1,0 +1,22 @@
+-- `bounds::set_bounds` meets its contract: the bounds that are left to set, from bucket i on, come out as all of them do.
+use Prim.Native.Nat.{◌+◌, ◌-◌, ◌*◌, ◌≤◌, min}
+use native.Mathlib.Omega.{arith}
+use mathlib.Core.Path.{◌≡◌, refl, sym, ap₂, ◌∙◌}
+use mathlib.Core.List.{◌++◌}
+use lib.ListN.{length, take, length-set, take-append-drop}
+use lib.Seq.{take-set-le}
+use borrow.Author.Rules.{rules}
+use Rattle.theory.specs.Heap.{rebound}
+use Rattle.bounds.specs.Words.{bounds_of, size_of, rebound_words}
+use Rattle.bounds.proofs.Rebound.{rebound_turn}
+use Rattle.bounds.proofs.set_bounds.Given as goal
+
+abbrev pub invariant-loop-i : goal.invariant-loop-i
+invariant-loop-i l =
+    (l.offset + l.from * 4294967296 ≤ l.i * 4294967296)
+    × (length l.words ≡ length l.initial.words)
+    × (take (4 * l.n) l.words ≡ take (4 * l.n) l.initial.words)
+    × (rebound (size_of l.sizes) l.end (min (l.before + l.offset) l.end) l.i (l.to - l.i) (bounds_of l.n l.words) ≡ rebound (size_of l.sizes) l.end l.before l.from (l.to - l.from) (bounds_of l.n l.initial.words))
+
+abbrev pub decreases-loop-i : goal.decreases-loop-i
+decreases-loop-i l = l.to - l.i

@@ -1,0 +1,31 @@
+-- `check_lists::limits::any_above` meets its contract: a word above the limit was passed exactly if not every word passed is at most it.
+use mathlib.Core.Path.{◌≡◌, refl}
+use mathlib.Core.Bool.{false}
+use Prim.Native.Nat.{ℕ, ◌-◌, ◌≤◌, ◌<◌}
+use native.Mathlib.Omega.{arith}
+use lib.Dec.{ltb}
+use lib.ListN.{length, get_or}
+use borrow.Author.Count.{below_more}
+use borrow.Author.Tests.{ltb-false, le-ltb}
+use borrow.Author.Rules.{rules}
+use Rattle.check_lists.proofs.Tests.{or_left, or_right}
+use Rattle.check_lists.proofs.limits.any_above.Goals as goal
+
+pub loop-i-preserved : goal.loop-i-preserved
+loop-i-preserved c =
+    let limit = c.args.limit in
+    let words = c.args.words.now in
+    let above = ltb limit (get_or words c.loop-i.i 0) in
+    let before = c.loop-i.invariant.1 in (
+      search rules,
+      (
+        λ e. below_more _ c.loop-i.i (before.0 (or_left c.loop-i.any above e)) (ltb-false limit (get_or words c.loop-i.i 0) (or_right c.loop-i.any above e)),
+        λ low. rw (before.1 (λ k h. low k (omega arith)), le-ltb limit (get_or words c.loop-i.i 0) (low c.loop-i.i (omega arith))) refl,
+      ),
+    )
+
+pub returns : goal.returns
+returns c = record { none = λ e k h. c.loop-i.invariant.1.0 e k (search rules); some = λ low. c.loop-i.invariant.1.1 (λ k h. low k (omega (arith, c.loop-i.invariant.0))) }
+
+pub loop-i-init : goal.loop-i-init
+loop-i-init c = (search rules, (λ e k l. absurd (search rules), λ low. refl))

@@ -1,0 +1,14 @@
+-- `check_lists::starts::least_start` meets its contract: the indices that are left decide.
+use mathlib.Core.Path.{◌≡◌, sym, ◌∙◌}
+use Prim.Native.Nat.{◌+◌, ◌-◌}
+use native.Mathlib.Omega.{arith}
+use borrow.Author.Rules.{rules}
+use Rattle.check_lists.specs.Lists.{least_fault, start_fails, starts_check}
+use Rattle.check_lists.proofs.Least.{none_left, fails_here, passes_here}
+use Rattle.check_lists.proofs.starts.least_start.Given as goal
+
+abbrev pub invariant-loop-i : goal.invariant-loop-i
+invariant-loop-i l = starts_check l.n l.arcs l.starts ≡ least_fault 6 (start_fails l.n l.arcs l.starts) l.i (l.n + 1 - l.i)
+
+abbrev pub decreases-loop-i : goal.decreases-loop-i
+decreases-loop-i l = l.n + 1 - l.i

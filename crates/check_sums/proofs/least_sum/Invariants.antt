@@ -1,0 +1,13 @@
+-- `check_sums::least_sum` meets its contract: the arcs of the nodes that are left decide.
+use Prim.Native.Nat.{◌+◌, ◌-◌, ◌≤◌}
+use native.Mathlib.Omega.{arith}
+use mathlib.Core.Path.{◌≡◌}
+use borrow.Author.Rules.{rules}
+use Rattle.check_sums.proofs.Sums.{FromNode, start_most, hold_most, from_first, from_none, from_next, from_found}
+use Rattle.check_sums.proofs.least_sum.Given as goal
+
+abbrev pub invariant-loop-v : goal.invariant-loop-v
+invariant-loop-v l = (l.v ≤ l.n) × FromNode l.n l.ceiling l.starts l.costs l.holds l.v
+
+abbrev pub decreases-loop-v : goal.decreases-loop-v
+decreases-loop-v l = l.n - l.v

@@ -1,0 +1,12 @@
+-- `checks::run_lists_check` meets its contract: its checks are put together two at a time.
+use Rattle.checks.specs.Checks.{lent_checks}
+use Rattle.checks.proofs.Order.{one, both}
+use Rattle.checks.proofs.run_lists_check.Goals as goal
+
+pub returns : goal.returns
+unfolding lent_checks
+returns c =
+    let made-1 =
+    both (one c.lent_check.ensures) (one c.lent_check-2.ensures) c.first_of-found.ensures in
+    let made-2 = both made-1 (one c.lent_check-3.ensures) c.first_of-found-2.ensures in
+    (both made-2 (one c.lent_check-4.ensures) c.first_of.ensures).is

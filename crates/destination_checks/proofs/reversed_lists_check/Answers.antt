@@ -1,0 +1,12 @@
+-- `destination_checks::reversed_lists_check` meets its contract: its checks are put together two at a time.
+use Rattle.checks.specs.Checks.{lent_checks}
+use Rattle.checks.proofs.Order.{one, both}
+use Rattle.destination_checks.proofs.reversed_lists_check.Goals as goal
+
+pub returns : goal.returns
+unfolding lent_checks
+returns c =
+    (both
+    (both (both (one c.lent_check.ensures) (one c.lent_check-2.ensures) c.first_of-found.ensures)
+    (one c.lent_check-3.ensures) c.first_of-found-2.ensures)
+    (one c.lent_check-4.ensures) c.first_of.ensures).is

@@ -1,0 +1,15 @@
+-- `runs::two_level` meets its contract.
+use mathlib.Core.Path.{sym, ◌∙◌}
+use Rattle.checks.proofs.Valid.{passed_ready}
+use Rattle.runs.proofs.Accepted.{passed_ran, refused_ran}
+use borrow.Author.Rules.{rules}
+use Rattle.runs.proofs.two_level.Goals as goal
+
+pub returns-in-Fault : goal.returns-in-Fault
+returns-in-Fault c = refused_ran (sym c.two_level_check-check.ensures ∙ c.in-Fault.is) c.refused_run.ensures
+
+pub two_level_steps-requires : goal.two_level_steps-requires
+two_level_steps-requires c = passed_ready (sym c.two_level_check-check.ensures ∙ c.in_default.is)
+
+pub returns : goal.returns
+returns c = passed_ran c.two_level_check-check.ensures c.in_default.is c.two_level_steps.ensures
