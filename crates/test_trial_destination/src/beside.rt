@@ -15,7 +15,7 @@ use test_reference_search::refusals;
 type List = [u32; 4112];
 
 // What a run has answered, and the lists lent to it.
-#[derive(Drop)]
+#[derive(Clone, Copy)]
 pub struct Ran {
     answer: RunAnswer,
     distances: List,

@@ -76,7 +76,7 @@ fn put_number(case: Case, refusal: u32, word: u64) -> Case {
 }
 
 // Two refusals, where behind 10 those up to 19 stand for none, and a word for each.
-#[derive(Drop)]
+#[derive(Clone, Copy)]
 pub struct Pair {
     first: u32,
     second: u32,

@@ -7,7 +7,7 @@ use test_reference_map::map::Lists;
 use test_reference_map::nodes::Table;
 
 // Number and place, then what a run counts; besides, the nodes at which the references do not agree.
-#[derive(Drop)]
+#[derive(Clone, Copy)]
 pub struct Expected {
     pub number: u64,
     pub place: u64,

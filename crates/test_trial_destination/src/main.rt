@@ -5,10 +5,10 @@
 #![tactic(auto)]
 
 use families::{EDGES, FEW_HEADS, LARGE, SEGMENTS};
+use std::io;
 use test_generated::{maps, tallies};
 use test_reference_map::nodes::Table;
 use test_reference_map::words;
-use std::io;
 
 mod beside;
 mod edges;
@@ -39,7 +39,12 @@ fn main(rt: HostRuntime) -> io::Result<()> {
     print_family(&rt, maps::GRID, b"grids", &mut found)?;
     print_family(&rt, maps::CHAIN, b"chains", &mut found)?;
     print_family(&rt, maps::EQUAL_STAR, b"stars of equal arcs", &mut found)?;
-    print_family(&rt, maps::DISTINCT_STAR, b"stars of distinct arcs", &mut found)?;
+    print_family(
+        &rt,
+        maps::DISTINCT_STAR,
+        b"stars of distinct arcs",
+        &mut found,
+    )?;
     print_family(&rt, maps::ZERO_COSTS, b"zero costs", &mut found)?;
     print_family(&rt, maps::TWO_PARTS, b"two parts", &mut found)?;
     print_family(
@@ -48,7 +53,12 @@ fn main(rt: HostRuntime) -> io::Result<()> {
         b"self-loops and parallel arcs",
         &mut found,
     )?;
-    print_family(&rt, maps::ALL_DECREASES, b"every arc a decrease", &mut found)?;
+    print_family(
+        &rt,
+        maps::ALL_DECREASES,
+        b"every arc a decrease",
+        &mut found,
+    )?;
     print_family(&rt, maps::NO_ARCS, b"m = 0", &mut found)?;
     print_family(&rt, maps::SAME_DEGREE, b"equal numbers of arcs", &mut found)?;
     print_family(&rt, FEW_HEADS, b"many arcs to few nodes", &mut found)?;

@@ -7,7 +7,7 @@ use test_reference_map::nodes::Table;
 use test_reference_search::dijkstra;
 
 // The text's length, and the refusal that it tells, 0 for none. Of a file that is taken also n, m and r; of a refused one 0.
-#[derive(Drop)]
+#[derive(Clone, Copy)]
 pub struct Printed {
     pub length: u64,
     pub number: u64,

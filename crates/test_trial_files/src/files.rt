@@ -15,7 +15,7 @@ type ByArc = [u32; 2048];
 type ByNode = [u32; 512];
 
 // The length of a text, the bytes it was written to, and the lists that `plan` lends.
-#[derive(Drop)]
+#[derive(Clone, Copy)]
 struct Answered {
     length: usize,
     output: [u8; 33280],

@@ -4,10 +4,10 @@
 // text tells has a line: the files for which it is the one to tell, and the differences in them.
 #![tactic(auto)]
 
+use std::io;
 use test_generated::tallies;
 use test_reference_map::nodes::Table;
 use test_reference_map::words;
-use std::io;
 
 mod expected;
 mod families;
@@ -37,7 +37,12 @@ fn print_family(rt: &impl Print, family: u32, name: &[u8], found: &mut Table) ->
 fn main(rt: HostRuntime) -> io::Result<()> {
     let mut found = [0u64; 49152];
     print_family(&rt, families::WHOLE, b"planning files", &mut found)?;
-    print_family(&rt, families::DAMAGED, b"damaged planning files", &mut found)?;
+    print_family(
+        &rt,
+        families::DAMAGED,
+        b"damaged planning files",
+        &mut found,
+    )?;
     tallies::print(&rt, &found)?;
     let mut found = [0u64; 49152];
     print_family(

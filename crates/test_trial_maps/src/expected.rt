@@ -8,7 +8,7 @@ use test_reference_search::{dijkstra, refusals, walks};
 
 // `highest` is the highest bucket that a removal used. The differing nodes are those at which the references do not agree, of which there
 // are none.
-#[derive(Drop)]
+#[derive(Clone, Copy)]
 pub struct Expected {
     pub number: u64,
     pub place: u64,

@@ -1,11 +1,11 @@
 // The families of maps: how many each has, the numbers of each map (document 01, "Edges"), and its holds (document 02, paper 2).
 use crate::expected::Expected;
+use std::io;
 use test_generated::maps::Map;
 use test_generated::{edges, holds, lists, maps, random};
 use test_reference_map::case::Case;
 use test_reference_map::map::Lists;
 use test_reference_map::words;
-use std::io;
 
 pub const RANDOM: u32 = 0;
 
@@ -114,13 +114,13 @@ fn print_if(rt: &impl Print, wanted: bool, byte: u8) -> io::Result<()> {
 pub fn print_name(rt: &impl Print, family: u32) -> io::Result<()> {
     if family < 10 {
         print_nth(
-        rt,
+            rt,
             family,
             b"random|grids|chains to the last bucket|stars of equal arcs|stars of distinct arcs|zero costs|two parts|self-loops and parallel arcs|every arc a decrease|n = 1|",
         )
     } else {
         print_nth(
-        rt,
+            rt,
             family - 10,
             b"m = 0|C = 0 1 7 8 1048575|K = 2 to 64|n = 4096|m = 65536|routes over damaged parents|runs at the edges of refusals|routes at the edges of refusals|",
         )

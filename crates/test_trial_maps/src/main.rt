@@ -5,11 +5,11 @@
 // at an edge in which it is the one to return, and the differences in them.
 #![tactic(auto)]
 
+use std::io;
 use test_generated::tallies::Found;
 use test_generated::{holds, tallies};
 use test_reference_map::nodes::Table;
 use test_reference_map::words;
-use std::io;
 
 mod beside;
 mod damaged;

@@ -4,9 +4,9 @@
 // and works out the same numbers, apart from the planner and from the reference.
 #![tactic(auto)]
 
+use std::io;
 use test_generated::tallies;
 use test_reference_map::words;
-use std::io;
 
 mod trial;
 

@@ -5,10 +5,10 @@
 #![tactic(auto)]
 
 use families::{EDGES, LARGE, WITH_HOLDS};
+use std::io;
 use test_generated::{maps, tallies};
 use test_reference_map::nodes::Table;
 use test_reference_map::words;
-use std::io;
 
 mod families;
 mod read_back;
@@ -25,7 +25,13 @@ fn try_family(family: u32, found: &mut Table) -> u64 {
     differences
 }
 
-fn print_family(rt: &impl Print, family: u32, name: &[u8], behind: &[u8], found: &mut Table) -> io::Result<()> {
+fn print_family(
+    rt: &impl Print,
+    family: u32,
+    name: &[u8],
+    behind: &[u8],
+    found: &mut Table,
+) -> io::Result<()> {
     let differences = try_family(family, found);
     rt.write_all(name)?;
     rt.write_all(behind)?;
@@ -45,7 +51,12 @@ fn main(rt: HostRuntime) -> io::Result<()> {
     print_rule(&rt, maps::GRID, b"grids", &mut found)?;
     print_rule(&rt, maps::CHAIN, b"chains", &mut found)?;
     print_rule(&rt, maps::EQUAL_STAR, b"stars of equal arcs", &mut found)?;
-    print_rule(&rt, maps::DISTINCT_STAR, b"stars of distinct arcs", &mut found)?;
+    print_rule(
+        &rt,
+        maps::DISTINCT_STAR,
+        b"stars of distinct arcs",
+        &mut found,
+    )?;
     print_rule(&rt, maps::ZERO_COSTS, b"zero costs", &mut found)?;
     print_rule(&rt, maps::TWO_PARTS, b"two parts", &mut found)?;
     print_rule(
@@ -54,10 +65,21 @@ fn main(rt: HostRuntime) -> io::Result<()> {
         b"self-loops and parallel arcs",
         &mut found,
     )?;
-    print_rule(&rt, maps::ALL_DECREASES, b"every arc a decrease", &mut found)?;
+    print_rule(
+        &rt,
+        maps::ALL_DECREASES,
+        b"every arc a decrease",
+        &mut found,
+    )?;
     print_rule(&rt, maps::NO_ARCS, b"m = 0", &mut found)?;
     print_rule(&rt, maps::SAME_DEGREE, b"equal numbers of arcs", &mut found)?;
-    print_family(&rt, LARGE, b"up to 4096 nodes and 65536 arcs", b"", &mut found)?;
+    print_family(
+        &rt,
+        LARGE,
+        b"up to 4096 nodes and 65536 arcs",
+        b"",
+        &mut found,
+    )?;
     print_family(&rt, EDGES, b"at the edges of refusals", b"", &mut found)?;
     tallies::print(&rt, &found)
 }

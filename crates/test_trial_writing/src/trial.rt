@@ -14,7 +14,7 @@ use test_rows::bytes;
 use writer::WriteAnswer;
 
 // Number and place, 0 and 0 for none, and the length of the file, 0 if none is written.
-#[derive(Drop)]
+#[derive(Clone, Copy)]
 struct Outcome {
     number: u64,
     place: u64,
