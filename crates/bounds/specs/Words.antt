@@ -2,7 +2,7 @@
 -- of segments of a bucket below the last, and 1 in the one-level heap (document 01, "One-level heap" and "Two-level heap").
 use Rattle.std.specs.Prelude.{ℕ, ◌+◌, ◌-◌, ◌*◌, ◌/◌, ◌≤◌, ◌<◌, ◌≡◌, Bool, true, cond, ◌&&◌, List, ◌++◌, ltb, length, get_or, take, drop}
 use Rattle.theory.specs.Shape.{Shape}
-use Rattle.theory.specs.Heap.{bound, rebound, bounds_from}
+use Rattle.theory.specs.Heap.{rebound, bounds_from}
 
 -- The bounds in the words of a heap of n nodes: u(i) is words[4 * n + i] (document 01, "One-level heap").
 abbrev pub bounds_of : (n : ℕ) → List ℕ → List ℕ

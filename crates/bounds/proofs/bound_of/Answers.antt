@@ -1,7 +1,6 @@
 -- `bounds::bound_of` meets its contract.
 use mathlib.Core.Path.{refl}
 use lib.Seq.{get_or-drop}
-use borrow.Author.Rules.{rules}
 use Rattle.bounds.proofs.bound_of.Goals as goal
 
 pub returns : goal.returns

@@ -2,7 +2,6 @@
 use Prim.Native.Nat.{◌-◌}
 use native.Mathlib.Omega.{arith}
 use mathlib.Core.Path.{◌∙◌}
-use borrow.Author.Rules.{rules}
 use Rattle.bounds.specs.Words.{bounds_of}
 use Rattle.bounds.proofs.Bucket.{bucket_below, reads_below, reads_most}
 use Rattle.bounds.proofs.bucket_held.Goals as goal

@@ -1,9 +1,7 @@
 -- `bounds::bucket_of` meets its contract: the search that is left, from bucket i down, finds what the whole search does, and reads so many
 -- bounds fewer as were read before it.
-use Prim.Native.Nat.{◌+◌, ◌≤◌}
 use native.Mathlib.Omega.{arith}
 use mathlib.Core.Path.{◌≡◌, refl, sym, ◌∙◌}
-use borrow.Author.Rules.{rules}
 use Rattle.theory.specs.Heap.{bucket_from, reads_from}
 use Rattle.bounds.specs.Words.{bounds_of}
 use Rattle.bounds.proofs.Bucket.{bucket_above, bucket_below, reads_above, reads_below}

@@ -4,7 +4,6 @@ use native.Mathlib.Omega.{arith}
 use mathlib.Core.Path.{◌≡◌, ap, ◌∙◌}
 use mathlib.Core.List.{List}
 use lib.ListN.{length, set, length-set}
-use borrow.Author.Rules.{rules}
 use Rattle.bounds.specs.Words.{first_words}
 use Rattle.bounds.proofs.First.{first_made, first_words_length}
 use Rattle.bounds.proofs.first_bounds.Goals as goal

@@ -3,7 +3,6 @@ use Prim.Native.Nat.{◌-◌, ◌<◌}
 use native.Mathlib.Omega.{arith}
 use mathlib.Core.Path.{◌≡◌, refl, sym, ◌∙◌}
 use mathlib.Core.Bool.{true}
-use borrow.Author.Rules.{rules}
 use Rattle.bounds.specs.Words.{segmented, in_segment}
 use Rattle.bounds.proofs.Segments.{segmented_below}
 use Rattle.bounds.proofs.is_in_segment.Goals as goal

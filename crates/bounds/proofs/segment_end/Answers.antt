@@ -4,7 +4,6 @@ use native.Mathlib.Nat.{le-mul_of_pos_right}
 use native.Mathlib.Omega.{arith}
 use mathlib.Core.Path.{◌≡◌, sym, ◌∙◌}
 use mathlib.Core.Bool.{true}
-use borrow.Author.Rules.{rules}
 use Rattle.bounds.specs.Words.{size_of, segmented, segment_end}
 use Rattle.bounds.proofs.Segments.{segmented_below, end_inside, end_whole}
 use Rattle.bounds.proofs.segment_end.Goals as goal

@@ -4,7 +4,6 @@ use native.Mathlib.Nat.{div-le_self}
 use native.Mathlib.Omega.{arith}
 use mathlib.Core.Path.{◌≡◌, sym, ◌∙◌}
 use mathlib.Core.Bool.{true}
-use borrow.Author.Rules.{rules}
 use Rattle.bounds.specs.Words.{size_of, segmented, segment_number}
 use Rattle.bounds.proofs.Segments.{segmented_below, number_inside, number_whole}
 use Rattle.bounds.proofs.segment_of.Goals as goal

@@ -1,14 +1,9 @@
 -- `bounds::set_bounds` meets its contract: the bounds that are left to set, from bucket i on, come out as all of them do.
 use Prim.Native.Nat.{◌+◌, ◌-◌, ◌*◌, ◌≤◌, min}
-use native.Mathlib.Omega.{arith}
-use mathlib.Core.Path.{◌≡◌, refl, sym, ap₂, ◌∙◌}
-use mathlib.Core.List.{◌++◌}
-use lib.ListN.{length, take, length-set, take-append-drop}
-use lib.Seq.{take-set-le}
-use borrow.Author.Rules.{rules}
+use mathlib.Core.Path.{◌≡◌}
+use lib.ListN.{length, take}
 use Rattle.theory.specs.Heap.{rebound}
-use Rattle.bounds.specs.Words.{bounds_of, size_of, rebound_words}
-use Rattle.bounds.proofs.Rebound.{rebound_turn}
+use Rattle.bounds.specs.Words.{bounds_of, size_of}
 use Rattle.bounds.proofs.set_bounds.Given as goal
 
 abbrev pub invariant-loop-i : goal.invariant-loop-i

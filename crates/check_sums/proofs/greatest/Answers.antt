@@ -1,11 +1,7 @@
 -- `check_sums::greatest` meets its contract: no word passed is above the greatest, which is above no limit of all words.
-use Prim.Native.Nat.{ℕ, ◌-◌, ◌≤◌, ◌<◌}
 use native.Mathlib.Omega.{arith}
-use mathlib.Core.Logic.{⊎_elim}
-use lib.ListN.{length, get_or}
 use borrow.Author.Count.{below_more}
 use borrow.Author.Rules.{rules}
-use Rattle.check_lists.specs.Lists.{NoneAbove}
 use Rattle.check_sums.proofs.greatest.Goals as goal
 use Rattle.check_sums.proofs.greatest.Goals.{else-words-i, then-words-i}
 

@@ -1,9 +1,9 @@
 -- `check_sums::least_sum` meets its contract: the arcs of the nodes that are left decide.
-use Prim.Native.Nat.{◌+◌, ◌-◌, ◌≤◌}
+use Prim.Native.Nat.{◌+◌}
 use native.Mathlib.Omega.{arith}
 use mathlib.Core.Path.{◌≡◌}
 use borrow.Author.Rules.{rules}
-use Rattle.check_sums.proofs.Sums.{FromNode, start_most, hold_most, from_first, from_none, from_next, from_found}
+use Rattle.check_sums.proofs.Sums.{start_most, hold_most, from_first, from_none, from_next, from_found}
 use Rattle.check_sums.proofs.least_sum.Goals as goal
 
 pub loop-v-init : goal.loop-v-init
@@ -25,11 +25,10 @@ pub returns-in_default : goal.returns-in_default
 returns-in_default c = from_found c.requires c.loop-v.v (search rules) c.least_above-found.ensures c.in_default.is c.loop-v.invariant.1
 
 pub loop-v-preserved : goal.loop-v-preserved
-loop-v-preserved c =
-    (
-      search rules,
-      from_next c.requires c.loop-v.v (search rules) c.least_above-found.ensures c.in-Passed.is c.loop-v.invariant.1,
-    )
+loop-v-preserved c = (
+  search rules,
+  from_next c.requires c.loop-v.v (search rules) c.least_above-found.ensures c.in-Passed.is c.loop-v.invariant.1,
+)
 
 pub returns : goal.returns
 returns c =

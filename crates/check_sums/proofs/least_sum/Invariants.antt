@@ -1,9 +1,6 @@
 -- `check_sums::least_sum` meets its contract: the arcs of the nodes that are left decide.
-use Prim.Native.Nat.{◌+◌, ◌-◌, ◌≤◌}
-use native.Mathlib.Omega.{arith}
-use mathlib.Core.Path.{◌≡◌}
-use borrow.Author.Rules.{rules}
-use Rattle.check_sums.proofs.Sums.{FromNode, start_most, hold_most, from_first, from_none, from_next, from_found}
+use Prim.Native.Nat.{◌-◌, ◌≤◌}
+use Rattle.check_sums.proofs.Sums.{FromNode}
 use Rattle.check_sums.proofs.least_sum.Given as goal
 
 abbrev pub invariant-loop-v : goal.invariant-loop-v

@@ -1,6 +1,5 @@
 -- `check_sums::sums_check` meets its contract: costs that are low enough for every hold pass with each.
 use native.Mathlib.Omega.{arith}
-use borrow.Author.Rules.{rules}
 use Rattle.check_sums.proofs.Sums.{low_costs_pass}
 use Rattle.check_sums.proofs.sums_check.Goals as goal
 

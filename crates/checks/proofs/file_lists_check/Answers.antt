@@ -1,5 +1,4 @@
 -- `checks::file_lists_check` meets its contract.
-use borrow.Author.Rules.{rules}
 use Rattle.checks.specs.Checks.{lent_checks}
 use Rattle.checks.proofs.Order.{one, both}
 use Rattle.checks.proofs.file_lists_check.Goals as goal

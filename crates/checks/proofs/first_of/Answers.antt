@@ -1,6 +1,5 @@
 -- `checks::first_of` meets its contract, by the two cases of the first check.
 use mathlib.Core.Path.{refl, ◌∙◌}
-use borrow.Author.Rules.{rules}
 use Rattle.checks.specs.Checks.{first_fault}
 use Rattle.checks.proofs.Order.{one}
 use Rattle.checks.proofs.first_of.Goals as goal

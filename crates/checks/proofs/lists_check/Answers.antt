@@ -2,7 +2,6 @@
 use mathlib.Core.Path.{sym, ◌∙◌}
 use mathlib.Core.List.{List, [], ◌∷◌}
 use lib.ListN.{length}
-use borrow.Author.Rules.{rules}
 use Rattle.model.specs.declared.Check.{Check}
 use Rattle.check_lists.specs.Lists.{starts_check, heads_check, holds_check}
 use Rattle.checks.specs.Checks.{size_checks, lists_checks}

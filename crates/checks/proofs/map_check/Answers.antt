@@ -1,7 +1,6 @@
 -- `checks::map_check` meets its contract: where the lists pass, a cost can be looked at with its tail's hold.
 use mathlib.Core.Path.{◌≡◌, sym, ◌∙◌}
 use mathlib.Core.List.{[], ◌∷◌}
-use borrow.Author.Rules.{rules}
 use Rattle.model.specs.declared.Check.TheVariants.{Passed}
 use Rattle.theory.specs.Runs.{Inputs, inputs}
 use Rattle.checks.specs.Checks.{first_fault, lists_checks, tail_sums_check, map_checks}

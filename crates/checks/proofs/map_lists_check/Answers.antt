@@ -1,5 +1,4 @@
 -- `checks::map_lists_check` meets its contract: its checks are put together two at a time.
-use native.Mathlib.Omega.{arith}
 use Rattle.checks.specs.Checks.{lent_checks}
 use Rattle.checks.proofs.Order.{one, both}
 use Rattle.checks.proofs.map_lists_check.Goals as goal

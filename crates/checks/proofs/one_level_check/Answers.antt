@@ -1,5 +1,4 @@
 -- `checks::one_level_check` meets its contract.
-use borrow.Author.Rules.{rules}
 use Rattle.checks.specs.Checks.{map_checks, run_checks}
 use Rattle.checks.proofs.Order.{both}
 use Rattle.checks.proofs.one_level_check.Goals as goal

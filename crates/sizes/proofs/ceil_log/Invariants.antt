@@ -1,11 +1,7 @@
 -- `sizes::ceil_log` meets its contract: `power` is the power of the exponent, and no smaller exponent is enough.
-use Prim.Native.Nat.{◌+◌, ◌-◌, ◌*◌, ◌^◌, ◌≤◌, ◌<◌}
-use native.Mathlib.Nat.{mul-le-mul_left, pow-zero, pow-suc}
-use native.Mathlib.Numerals.{add-one}
-use native.Mathlib.Omega.{arith}
-use mathlib.Core.Path.{◌≡◌, sym}
-use borrow.Author.Rules.{rules}
-use Rattle.sizes.proofs.Logarithm.{Searched, searched_first, not_last, searched_next, searched_end}
+use Prim.Native.Nat.{◌-◌, ◌^◌}
+use mathlib.Core.Path.{◌≡◌}
+use Rattle.sizes.proofs.Logarithm.{Searched}
 use Rattle.sizes.proofs.ceil_log.Given as goal
 
 abbrev pub invariant-loop-power : goal.invariant-loop-power

@@ -1,5 +1,5 @@
 -- The counts. A labelled node may still be shifted once for each bucket below its own: these, summed, are the potential.
-use Prim.Native.Nat.{ℕ, ◌+◌, ◌-◌, ◌*◌, ◌≤◌, ◌<◌}
+use Prim.Native.Nat.{ℕ, ◌+◌, ◌*◌, ◌≤◌, ◌<◌}
 use native.Mathlib.Omega.{arith}
 use native.Mathlib.Nat.{mul-le-mul_left}
 use mathlib.Core.Path.{◌≡◌, refl, ap}

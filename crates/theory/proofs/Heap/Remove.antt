@@ -10,7 +10,7 @@ use lib.Dec.{ltb, eqb}
 use borrow.Author.Tests.{ltb-true, eqb-true, eqb-false, lt-ltb, eq-eqb, ne_eqb, not-true}
 use Rattle.theory.specs.Network.{Network}
 use Rattle.theory.specs.Shape.{Shape}
-use Rattle.theory.specs.Search.{labelled, scanned, remove}
+use Rattle.theory.specs.Search.{remove}
 use Rattle.theory.specs.Heap.{Heap, bucket_of, key_of, bucket_from, segment_of, shifts?, move_labelled, move, heap_remove}
 use Rattle.theory.proofs.Cases.{differ, same?, labelled≢scanned}
 use Rattle.theory.proofs.Sums.{length_list_below, get_d_list_below}

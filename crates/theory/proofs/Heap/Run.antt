@@ -3,13 +3,12 @@ use Prim.Native.Nat.{ℕ, zero, suc, ◌+◌, ◌*◌, ◌≤◌}
 use native.Mathlib.Omega.{arith}
 use mathlib.Core.Path.{◌≡◌, refl, sym, ◌∙◌}
 use mathlib.Core.Bool.{Bool, true, false, cond}
-use mathlib.Core.Logic.{◌≢◌}
 use mathlib.Core.List.{List, [], ◌∷◌, Memᴰ}
 use lib.ListN.{length, length-replicate}
 use Rattle.theory.specs.Maps.{none}
 use Rattle.theory.specs.Network.{Link, Network, Admissible}
 use Rattle.theory.specs.Shape.{Shape}
-use Rattle.theory.specs.Search.{unlabelled, scanned, Search, improves, Choice, chosen, scan, blank, start, search_from, search}
+use Rattle.theory.specs.Search.{unlabelled, Search, improves, Choice, chosen, scan, blank, start, search_from, search}
 use Rattle.theory.specs.Heap.{Heap, Pick, nothing, picked, pick, heap_label, heap_relax, heap_relax_all, heap_remove, heap_scan, heap_from, heap_blank, heap_start, heap, placements}
 use Rattle.theory.proofs.Cases.{scanned≢unlabelled, differ}
 use Rattle.theory.proofs.Sums.{sum_zero}

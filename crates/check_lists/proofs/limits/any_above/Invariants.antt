@@ -1,14 +1,8 @@
 -- `check_lists::limits::any_above` meets its contract: a word above the limit was passed exactly if not every word passed is at most it.
-use mathlib.Core.Path.{◌≡◌, refl}
+use mathlib.Core.Path.{◌≡◌}
 use mathlib.Core.Bool.{false}
 use Prim.Native.Nat.{ℕ, ◌-◌, ◌≤◌, ◌<◌}
-use native.Mathlib.Omega.{arith}
-use lib.Dec.{ltb}
 use lib.ListN.{length, get_or}
-use borrow.Author.Count.{below_more}
-use borrow.Author.Tests.{ltb-false, le-ltb}
-use borrow.Author.Rules.{rules}
-use Rattle.check_lists.proofs.Tests.{or_left, or_right}
 use Rattle.check_lists.proofs.limits.any_above.Given as goal
 
 abbrev pub invariant-loop-i : goal.invariant-loop-i

@@ -4,7 +4,6 @@ use Prim.Native.Nat.{ℕ, suc, ◌-◌}
 use native.Mathlib.Omega.{arith}
 use lib.Dec.{leb}
 use lib.ListN.{length, get_or}
-use borrow.Author.Rules.{rules}
 use Rattle.check_lists.specs.Lists.{word_above, heads_check}
 use Rattle.check_lists.proofs.Least.{same_tests}
 use Rattle.check_lists.proofs.limits.heads_check.Goals as goal

@@ -1,9 +1,8 @@
 -- `check_lists::limits::least_above` meets its contract: the indices that are left decide.
-use mathlib.Core.Path.{◌≡◌, refl, sym, ◌∙◌}
-use Prim.Native.Nat.{◌-◌}
+use mathlib.Core.Path.{sym, ◌∙◌}
 use borrow.Author.Tests.{lt-ltb, le-ltb}
 use borrow.Author.Rules.{rules}
-use Rattle.check_lists.specs.Lists.{least_fault, word_above}
+use Rattle.check_lists.specs.Lists.{word_above}
 use Rattle.check_lists.proofs.Least.{none_left, fails_here, passes_here}
 use Rattle.check_lists.proofs.limits.least_above.Goals as goal
 

@@ -1,10 +1,7 @@
 -- `check_lists::limits::least_above` meets its contract: the indices that are left decide.
-use mathlib.Core.Path.{◌≡◌, refl, sym, ◌∙◌}
+use mathlib.Core.Path.{◌≡◌}
 use Prim.Native.Nat.{◌-◌}
-use borrow.Author.Tests.{lt-ltb, le-ltb}
-use borrow.Author.Rules.{rules}
 use Rattle.check_lists.specs.Lists.{least_fault, word_above}
-use Rattle.check_lists.proofs.Least.{none_left, fails_here, passes_here}
 use Rattle.check_lists.proofs.limits.least_above.Given as goal
 
 abbrev pub invariant-loop-i : goal.invariant-loop-i

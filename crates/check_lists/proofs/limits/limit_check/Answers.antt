@@ -3,7 +3,6 @@ use mathlib.Core.Path.{◌≡◌, sym}
 use Prim.Native.Nat.{◌-◌}
 use native.Mathlib.Omega.{arith}
 use lib.ListN.{length}
-use borrow.Author.Rules.{rules}
 use Rattle.check_lists.proofs.Words.{none_above_passes}
 use Rattle.check_lists.proofs.limits.limit_check.Goals as goal
 

@@ -1,9 +1,7 @@
 -- `check_lists::starts::any_falls` meets its contract: while no word fell, each word before i is at most the next.
-use mathlib.Core.Path.{◌≡◌}
-use mathlib.Core.Bool.{false}
-use Prim.Native.Nat.{ℕ, ◌-◌, ◌≤◌, ◌<◌}
+use Prim.Native.Nat.{◌-◌}
 use lib.Dec.{ltb}
-use lib.ListN.{length, get_or}
+use lib.ListN.{get_or}
 use borrow.Author.Count.{below_more}
 use borrow.Author.Tests.{ltb-false}
 use borrow.Author.Rules.{rules}

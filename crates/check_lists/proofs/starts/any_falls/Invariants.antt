@@ -2,12 +2,7 @@
 use mathlib.Core.Path.{◌≡◌}
 use mathlib.Core.Bool.{false}
 use Prim.Native.Nat.{ℕ, ◌-◌, ◌≤◌, ◌<◌}
-use lib.Dec.{ltb}
 use lib.ListN.{length, get_or}
-use borrow.Author.Count.{below_more}
-use borrow.Author.Tests.{ltb-false}
-use borrow.Author.Rules.{rules}
-use Rattle.check_lists.proofs.Tests.{or_left, or_right}
 use Rattle.check_lists.proofs.starts.any_falls.Given as goal
 
 abbrev pub invariant-loop-i : goal.invariant-loop-i

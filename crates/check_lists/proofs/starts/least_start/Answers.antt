@@ -3,7 +3,7 @@ use mathlib.Core.Path.{◌≡◌, sym, ◌∙◌}
 use Prim.Native.Nat.{◌+◌, ◌-◌}
 use native.Mathlib.Omega.{arith}
 use borrow.Author.Rules.{rules}
-use Rattle.check_lists.specs.Lists.{least_fault, start_fails, starts_check}
+use Rattle.check_lists.specs.Lists.{start_fails, starts_check}
 use Rattle.check_lists.proofs.Least.{none_left, fails_here, passes_here}
 use Rattle.check_lists.proofs.starts.least_start.Goals as goal
 

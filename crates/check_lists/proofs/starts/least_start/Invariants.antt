@@ -1,10 +1,7 @@
 -- `check_lists::starts::least_start` meets its contract: the indices that are left decide.
-use mathlib.Core.Path.{◌≡◌, sym, ◌∙◌}
+use mathlib.Core.Path.{◌≡◌}
 use Prim.Native.Nat.{◌+◌, ◌-◌}
-use native.Mathlib.Omega.{arith}
-use borrow.Author.Rules.{rules}
 use Rattle.check_lists.specs.Lists.{least_fault, start_fails, starts_check}
-use Rattle.check_lists.proofs.Least.{none_left, fails_here, passes_here}
 use Rattle.check_lists.proofs.starts.least_start.Given as goal
 
 abbrev pub invariant-loop-i : goal.invariant-loop-i
