@@ -1,13 +1,12 @@
 -- From what the reader and the writer give to the whole answer. Assumes nothing.
-use Prim.Native.Nat.{ℕ, ◌+◌, ◌≤◌, ◌<◌}
+use Prim.Native.Nat.{ℕ, ◌≤◌, ◌<◌}
 use native.Mathlib.Omega.{arith}
 use mathlib.Core.Path.{◌≡◌, refl, sym, ap, subst, ◌∙◌}
-use mathlib.Core.List.{List, ◌∷◌, ◌++◌}
+use mathlib.Core.List.{List}
 use lib.ListN.{length}
 use Rattle.model.specs.declared.Check.{Check}
 use Rattle.model.specs.declared.Check.TheVariants.{Passed, Fault}
-use Rattle.theory.specs.Runs.{Inputs, two}
-use Rattle.checks.specs.Checks.{first_fault, map_checks, levels_checks}
+use Rattle.checks.specs.Checks.{first_fault}
 use Rattle.fields.specs.Writing.{Writes}
 use Rattle.fields.proofs.Written.{writes_inside}
 use Rattle.dimacs_checks.specs.Checking.{road_check}

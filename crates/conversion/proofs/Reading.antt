@@ -1,18 +1,16 @@
 -- What an answer of the reader tells of a road file, with the words that `convert` lends, and what the writer's checks then come to. Assumes
 -- nothing.
-use Prim.Native.Nat.{ℕ, suc, ◌+◌, ◌*◌, ◌≤◌, ◌<◌}
-use native.Mathlib.Numerals.{add-one}
+use Prim.Native.Nat.{ℕ, suc, ◌+◌, ◌≤◌, ◌<◌}
 use native.Mathlib.Omega.{arith}
 use mathlib.Core.Bool.{Bool, true, false, cond}
 use mathlib.Core.Path.{◌≡◌, refl, sym, ap, subst, ◌∙◌}
-use mathlib.Core.List.{List, [], ◌∷◌, ◌++◌, append_assoc}
+use mathlib.Core.List.{List, ◌++◌, append_assoc}
 use lib.Dec.{ltb}
 use lib.ListN.{length, take}
 use borrow.Author.Tests.{lt-ltb, le-ltb}
 use Rattle.model.specs.declared.Check.{Check}
 use Rattle.model.specs.declared.Check.TheVariants.{Passed, Fault}
 use Rattle.model.specs.Answers.{all_passed}
-use Rattle.theory.specs.Maps.{arcs}
 use Rattle.theory.specs.Runs.{Inputs, two}
 use Rattle.theory.proofs.Cases.{differ}
 use Rattle.checks.specs.Checks.{first_fault, map_checks, levels_checks}
@@ -23,7 +21,7 @@ use Rattle.dimacs_checks.specs.Checking.{road_check}
 use Rattle.dimacs.specs.declared.DimacsAnswer.{DimacsAnswer}
 use Rattle.dimacs.specs.declared.DimacsAnswer.TheVariants.{Read, Refused}
 use Rattle.dimacs.specs.Roads.{Road, road, road_starts, road_heads, road_costs, road_inputs}
-use Rattle.dimacs.specs.Promise.{DimacsNumbers, dimacs_numbers, dimacs_numbers_of, was_dimacs_read, DimacsAnswered, DimacsPromised}
+use Rattle.dimacs.specs.Promise.{DimacsNumbers, dimacs_numbers, dimacs_numbers_of, was_dimacs_read, DimacsAnswered}
 use Rattle.dimacs.proofs.Runnable.{RoadFits, roads_fit}
 use Rattle.reader.proofs.Told.{passed_told, front}
 use Rattle.writer.specs.Promise.{write_checks, Writable}

@@ -8,7 +8,7 @@ use lib.ListN.{length, get_or, set}
 use lib.Seq.{set-get_or}
 use borrow.Author.Tests.{ne_eqb, ltb-true}
 use Rattle.theory.specs.Shape.{Shape}
-use Rattle.theory.specs.Search.{Mark, unlabelled, labelled, mark, below}
+use Rattle.theory.specs.Search.{Mark, unlabelled, labelled, mark}
 use Rattle.theory.specs.Heap.{Heap, bound, bucket_of, key_of, bucket_from, reads_from, segment_of, search_start, heap_label}
 use Rattle.theory.proofs.Cases.{mark_cases}
 use Rattle.bounds.specs.Words.{bounds_of}

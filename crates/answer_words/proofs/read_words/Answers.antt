@@ -1,6 +1,5 @@
 -- `answer_words::read_words` meets its contract.
 use mathlib.Core.Path.{refl}
-use borrow.Author.Rules.{rules}
 use Rattle.answer_words.proofs.read_words.Goals as goal
 
 pub returns-in-Read : goal.returns-in-Read

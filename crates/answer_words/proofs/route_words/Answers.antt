@@ -1,6 +1,5 @@
 -- `answer_words::route_words` meets its contract.
 use mathlib.Core.Path.{refl}
-use borrow.Author.Rules.{rules}
 use Rattle.answer_words.proofs.route_words.Goals as goal
 
 pub returns-in-Found : goal.returns-in-Found

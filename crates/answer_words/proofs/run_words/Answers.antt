@@ -1,6 +1,5 @@
 -- `answer_words::run_words` meets its contract.
 use mathlib.Core.Path.{refl}
-use borrow.Author.Rules.{rules}
 use Rattle.answer_words.proofs.run_words.Goals as goal
 
 pub returns-in-Accepted : goal.returns-in-Accepted

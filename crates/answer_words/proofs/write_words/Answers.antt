@@ -1,6 +1,5 @@
 -- `answer_words::write_words` meets its contract.
 use mathlib.Core.Path.{refl}
-use borrow.Author.Rules.{rules}
 use Rattle.answer_words.proofs.write_words.Goals as goal
 
 pub returns-in-Written : goal.returns-in-Written

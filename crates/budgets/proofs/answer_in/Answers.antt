@@ -1,7 +1,5 @@
 -- `budgets::answer_in` meets its contract.
-use native.Mathlib.Omega.{arith}
-use mathlib.Core.Path.{◌≡◌, refl, sym, ◌∙◌}
-use borrow.Author.Rules.{rules}
+use mathlib.Core.Path.{sym, ◌∙◌}
 use Rattle.fields.proofs.Written.{writes_same}
 use Rattle.budgets.proofs.Sizing.{missing_text, line_inside, fault_text, passed_text, passed_size}
 use Rattle.budgets.proofs.answer_in.Goals as goal
@@ -20,8 +18,11 @@ returns-in-Fault c =
 
 pub write_size-requires : goal.write_size-requires
 write_size-requires c =
-    record { segments_value = passed_size c.args.bytes.now _ (sym c.line_at.ensures.answer ∙ c.in-Taken.is) c.line_at.ensures.list
-          (sym c.size_check-check.ensures ∙ c.in_default-check.is); in_bounds = c.requires }
+    record {
+      segments_value = passed_size c.args.bytes.now _ (sym c.line_at.ensures.answer ∙ c.in-Taken.is) c.line_at.ensures.list
+          (sym c.size_check-check.ensures ∙ c.in_default-check.is);
+      in_bounds = c.requires;
+    }
 
 pub returns : goal.returns
 returns c =

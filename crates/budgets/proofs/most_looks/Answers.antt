@@ -1,6 +1,5 @@
 -- `budgets::most_looks` meets its contract.
 use native.Mathlib.Omega.{arith}
-use borrow.Author.Rules.{rules}
 use Rattle.budgets.proofs.Sizing.{looks_fit}
 use Rattle.budgets.proofs.most_looks.Goals as goal
 

@@ -1,6 +1,5 @@
 -- `budgets::most_operations` meets its contract.
 use native.Mathlib.Omega.{arith}
-use borrow.Author.Rules.{rules}
 use Rattle.budgets.proofs.Sizing.{operations_fit}
 use Rattle.budgets.proofs.most_operations.Goals as goal
 

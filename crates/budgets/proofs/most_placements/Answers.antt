@@ -1,6 +1,5 @@
 -- `budgets::most_placements` meets its contract.
 use native.Mathlib.Omega.{arith}
-use borrow.Author.Rules.{rules}
 use Rattle.budgets.proofs.Sizing.{placements_fit}
 use Rattle.budgets.proofs.most_placements.Goals as goal
 

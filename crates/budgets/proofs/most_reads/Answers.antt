@@ -1,6 +1,5 @@
 -- `budgets::most_reads` meets its contract.
 use native.Mathlib.Omega.{arith}
-use borrow.Author.Rules.{rules}
 use Rattle.budgets.proofs.Sizing.{reads_fit}
 use Rattle.budgets.proofs.most_reads.Goals as goal
 

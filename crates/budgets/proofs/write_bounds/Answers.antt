@@ -1,6 +1,5 @@
 -- `budgets::write_bounds` meets its contract.
 use native.Mathlib.Omega.{arith}
-use borrow.Author.Rules.{rules}
 use Rattle.fields.specs.Fields.{comma}
 use Rattle.fields.proofs.Written.{writes_same, writes_then}
 use Rattle.report.proofs.Lines.{ended_length, field_most}

@@ -1,5 +1,4 @@
 -- `budgets::write_heap` meets its contract.
-use borrow.Author.Rules.{rules}
 use Rattle.fields.proofs.Written.{writes_same}
 use Rattle.budgets.specs.Budget.{Small}
 use Rattle.budgets.proofs.Sizing.{small_same, heap_whole}

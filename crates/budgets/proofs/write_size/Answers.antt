@@ -1,6 +1,5 @@
 -- `budgets::write_size` meets its contract.
 use native.Mathlib.Omega.{arith}
-use borrow.Author.Rules.{rules}
 use Rattle.fields.proofs.Written.{writes_same, writes_then}
 use Rattle.report.specs.Report.{word_one}
 use Rattle.budgets.specs.Budget.{most_reached, Small}
@@ -33,12 +32,15 @@ pub write_heap-requires : goal.write_heap-requires
 write_heap-requires c =
     let sized : Sized c.args.nodes c.args.arcs c.args.ceiling c.args.segments = passed_sized c.args.nodes c.args.arcs c.args.ceiling c.args.segments c.requires.segments_value in
     let second-small : Small (most_reached c.args.nodes c.args.arcs) c.two_level_buckets-two.result c.args.arcs = two_small sized c.two_level_buckets-two.ensures in
-    record { small = (second-small, omega (arith, second-small.few, sized.segments_high)); word_in_bounds = omega (
+    record {
+      small = (second-small, omega (arith, second-small.few, sized.segments_high));
+      word_in_bounds = omega (
         arith,
         c.requires.in_bounds,
         c.write_heap-next.ensures.behind,
         heap_most word_one c.args.nodes c.args.arcs c.one_level_buckets-one.result c.one_level_buckets-one.result,
-      ) }
+      );
+    }
 
 pub returns : goal.returns
 returns c =

@@ -1,5 +1,4 @@
 -- `conversion::answer_in` meets its contract: 13, the reader's refusal, or what the writer gives.
-use borrow.Author.Rules.{rules}
 use Rattle.conversion.proofs.Answering.{too_long, read_refused, front_read, front_answered}
 use Rattle.conversion.proofs.answer_in.Goals as goal
 

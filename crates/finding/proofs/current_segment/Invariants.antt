@@ -1,7 +1,5 @@
 -- `finding::current_segment` meets its contract: the segments passed end below the key.
 use Prim.Native.Nat.{◌+◌, ◌-◌, ◌≤◌}
-use native.Mathlib.Omega.{arith}
-use borrow.Author.Rules.{rules}
 use Rattle.finding.proofs.current_segment.Given as goal
 
 abbrev pub invariant-loop-tested : goal.invariant-loop-tested

@@ -1,6 +1,5 @@
 -- `finding::looks_of` meets its contract.
 use native.Mathlib.Omega.{arith}
-use borrow.Author.Rules.{rules}
 use borrow.Author.Tests.{lt-ltb, le-ltb}
 use Rattle.bounds.specs.Words.{segment_looks}
 use Rattle.finding.proofs.looks_of.Goals as goal

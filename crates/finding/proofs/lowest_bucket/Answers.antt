@@ -1,8 +1,6 @@
 -- `finding::lowest_bucket` meets its contract.
-use Prim.Native.Nat.{◌-◌}
 use native.Mathlib.Omega.{arith}
-use Rattle.finding.proofs.Finding.{Above, above_start, above_range, above_next, above_end}
-use borrow.Author.Rules.{rules}
+use Rattle.finding.proofs.Finding.{above_start, above_range, above_next, above_end}
 use Rattle.finding.proofs.lowest_bucket.Goals as goal
 
 pub loop-n-init : goal.loop-n-init

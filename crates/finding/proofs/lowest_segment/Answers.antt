@@ -1,13 +1,8 @@
 -- `finding::lowest_segment` meets its contract.
-use Prim.Native.Nat.{ℕ, ◌-◌, ◌<◌}
-use mathlib.Core.Path.{◌≡◌}
-use Rattle.model.specs.declared.Node.{Node}
-use Rattle.buckets.specs.declared.Found.TheVariants.{At, Nothing}
-use Rattle.buckets.specs.Answer.{InSlot, None}
+use Prim.Native.Nat.{ℕ, ◌<◌}
 use Rattle.state.specs.Slots.{slot_of}
 use native.Mathlib.Omega.{arith}
-use Rattle.finding.proofs.Finding.{Past, past_start, past_few, past_below, past_next, past_end, past_empty, past_held}
-use borrow.Author.Rules.{rules}
+use Rattle.finding.proofs.Finding.{past_start, past_few, past_below, past_next, past_end, past_empty, past_held}
 use Rattle.finding.proofs.lowest_segment.Goals as goal
 
 pub loop-segment-init : goal.loop-segment-init

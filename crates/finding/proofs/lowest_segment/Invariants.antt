@@ -1,13 +1,6 @@
 -- `finding::lowest_segment` meets its contract.
-use Prim.Native.Nat.{ℕ, ◌-◌, ◌<◌}
-use mathlib.Core.Path.{◌≡◌}
-use Rattle.model.specs.declared.Node.{Node}
-use Rattle.buckets.specs.declared.Found.TheVariants.{At, Nothing}
-use Rattle.buckets.specs.Answer.{InSlot, None}
-use Rattle.state.specs.Slots.{slot_of}
-use native.Mathlib.Omega.{arith}
-use Rattle.finding.proofs.Finding.{Past, past_start, past_few, past_below, past_next, past_end, past_empty, past_held}
-use borrow.Author.Rules.{rules}
+use Prim.Native.Nat.{◌-◌}
+use Rattle.finding.proofs.Finding.{Past}
 use Rattle.finding.proofs.lowest_segment.Given as goal
 
 abbrev pub invariant-loop-segment : goal.invariant-loop-segment

@@ -1,6 +1,5 @@
 -- `itineraries::answer_in` meets its contract.
 use native.Mathlib.Omega.{arith}
-use borrow.Author.Rules.{rules}
 use Rattle.itineraries.proofs.Answering.{too_long, read_refused, one_read, map_listed}
 use Rattle.itineraries.proofs.answer_in.Goals as goal
 

@@ -2,7 +2,6 @@
 use native.Mathlib.Omega.{arith}
 use mathlib.Core.Path.{sym}
 use lib.Seq.{length-take-le}
-use borrow.Author.Rules.{rules}
 use Rattle.itineraries.proofs.Listing.{run_routable, run_listed}
 use Rattle.itineraries.proofs.list_map.Goals as goal
 

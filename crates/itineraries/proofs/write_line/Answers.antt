@@ -1,6 +1,5 @@
 -- `itineraries::write_line` meets its contract.
 use native.Mathlib.Omega.{arith}
-use borrow.Author.Rules.{rules}
 use Rattle.fields.proofs.Written.{writes_same, writes_then, writes_length}
 use Rattle.itineraries.proofs.Lines.{field_most, word_most, commas_most, line_whole}
 use Rattle.itineraries.proofs.write_line.Goals as goal

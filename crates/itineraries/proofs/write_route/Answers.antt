@@ -2,7 +2,6 @@
 use native.Mathlib.Omega.{arith}
 use mathlib.Core.Path.{sym, ◌∙◌, ap, subst}
 use lib.Seq.{length-take-le}
-use borrow.Author.Rules.{rules}
 use Rattle.fields.proofs.Written.{writes_nothing, writes_same}
 use Rattle.itineraries.specs.Itineraries.{route_line, Few, Routable}
 use Rattle.itineraries.proofs.Lines.{unreached_line, reached_line, unreached_words, reached_words}

@@ -1,15 +1,9 @@
 -- `itineraries::write_routes` meets its contract: the lines of the first v nodes are written.
-use mathlib.Core.Path.{◌≡◌, refl, ◌∙◌, ap}
-use mathlib.Core.List.{List}
-use Prim.Native.Nat.{ℕ, ◌-◌, ◌≤◌}
-use native.Mathlib.Numerals.{add-one}
-use native.Mathlib.Omega.{arith}
-use lib.ListN.{length, get_or}
-use borrow.Author.Rules.{rules}
+use mathlib.Core.Path.{◌≡◌}
+use Prim.Native.Nat.{◌-◌, ◌≤◌}
+use lib.ListN.{length}
 use Rattle.fields.specs.Writing.{Writes}
-use Rattle.fields.proofs.Written.{writes_nothing, writes_then, writes_same, writes_length}
-use Rattle.itineraries.specs.Itineraries.{route_lines, nodes_to, words_if_reached, route_fields}
-use Rattle.itineraries.proofs.Lines.{lines_next, words_next, lines_most}
+use Rattle.itineraries.specs.Itineraries.{route_lines, nodes_to, route_fields}
 use Rattle.itineraries.proofs.write_routes.Given as goal
 
 abbrev pub invariant-loop-v : goal.invariant-loop-v

@@ -2,7 +2,6 @@
 use Prim.Native.Nat.{◌+◌, ◌-◌, ◌*◌, ◌≤◌, ◌<◌}
 use native.Mathlib.Omega.{arith}
 use Rattle.placing.proofs.Entering.{entered_current, slot_fits, under, bucket_read, segment_low, in_bucket, in_slots, few, entered_slot}
-use borrow.Author.Rules.{rules}
 use Rattle.placing.proofs.enter.Goals as goal
 
 pub returns-then-key-front : goal.returns-then-key-front

@@ -6,7 +6,6 @@ use mathlib.Core.Path.{refl, ◌∙◌, ap}
 use Rattle.state.specs.Tallies.{reads, after_event}
 use Rattle.state.proofs.Tallies.{same_reads}
 use Rattle.placing.proofs.Labelling.{entered_low, node, distances_long, current_few, read_few, fresh_read, fresh_entering, fresh_stands}
-use borrow.Author.Rules.{rules}
 use Rattle.placing.proofs.insert_node.Goals as goal
 
 pub bounds-distances-at : goal.bounds-distances-at
@@ -25,9 +24,12 @@ read-requires c = omega (arith, same_reads c.inserted.ensures, read_few c.requir
 
 pub returns : goal.returns
 returns c =
-    record { stands = λ X before roster h L.
+    record {
+      stands = λ X before roster h L.
           fresh_stands L c.requires.v_value c.bucket_of-found.ensures c.enter-current.ensures c.args.arc.0 refl refl refl
-          (c.read.ensures ∙ ap (after_event (reads c.bucket_of-found.result.reads)) c.inserted.ensures); front = refl }
+          (c.read.ensures ∙ ap (after_event (reads c.bucket_of-found.result.reads)) c.inserted.ensures);
+      front = refl;
+    }
 
 pub overflow_add-result : goal.overflow_add-result
 overflow_add-result c =

@@ -9,7 +9,6 @@ use Rattle.buckets.specs.Words.{places, place_bucket}
 use Rattle.state.specs.Tallies.{decrease, reads, after_event}
 use Rattle.state.proofs.Tallies.{same_reads}
 use Rattle.placing.proofs.Labelling.{entered_low, node, distances_long, words_long, current_few, held_far, read_few, held_start, held_read, standing, stays_stands, held_entering, held_stands}
-use borrow.Author.Rules.{rules}
 use Rattle.placing.proofs.label.Goals as goal
 
 pub place_of-place-requires : goal.place_of-place-requires
@@ -58,8 +57,11 @@ returns-then-stays c =
     let read : c.place_of-place.result ≡ place = c.place_of-place.ensures in
     let held : place ≢ 0 = λ e. eqb-false _ 0 (sym c.is_unlabelled.ensures ∙ c.if-is_unlabelled.false) (read ∙ e) in
     let from : c.place_bucket-start.result ≡ place_bucket place = c.place_bucket-start.ensures ∙ ap place_bucket read in
-    record { stands = λ X before roster h' L.
-          stays_stands L held from c.bucket_held-held.ensures (rw read at (c.stays.ensures c.if-stays.true)) c.args.arc.0 refl refl refl told; front = refl }
+    record {
+      stands = λ X before roster h' L.
+          stays_stands L held from c.bucket_held-held.ensures (rw read at (c.stays.ensures c.if-stays.true)) c.args.arc.0 refl refl refl told;
+      front = refl;
+    }
 
 pub leave_slot-requires : goal.leave_slot-requires
 leave_slot-requires c =
@@ -84,8 +86,11 @@ returns c =
     let read : c.place_of-place.result ≡ place = c.place_of-place.ensures in
     let held : place ≢ 0 = λ e. eqb-false _ 0 (sym c.is_unlabelled.ensures ∙ c.if-is_unlabelled.false) (read ∙ e) in
     let from : c.place_bucket-start.result ≡ place_bucket place = c.place_bucket-start.ensures ∙ ap place_bucket read in
-    record { stands = λ X before roster h' L.
-          held_stands L held from c.bucket_held-held.ensures c.leave_slot.ensures c.enter-current.ensures c.args.arc.0 refl refl refl told; front = refl }
+    record {
+      stands = λ X before roster h' L.
+          held_stands L held from c.bucket_held-held.ensures c.leave_slot.ensures c.enter-current.ensures c.args.arc.0 refl refl refl told;
+      front = refl;
+    }
 
 pub overflow_add-result : goal.overflow_add-result
 overflow_add-result c =

@@ -3,7 +3,6 @@ use Prim.Native.Nat.{ℕ}
 use native.Mathlib.Omega.{arith}
 use mathlib.Core.Path.{◌≡◌, sym, ◌∙◌}
 use Rattle.placing.proofs.Staying.{Names, names_slot, product_few, product_low, bucket_low, segment_high, below_end, stays_word}
-use borrow.Author.Rules.{rules}
 use Rattle.placing.proofs.stays.Goals as goal
 
 pub returns-then-key-front : goal.returns-then-key-front

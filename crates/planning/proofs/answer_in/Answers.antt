@@ -1,5 +1,4 @@
 -- `planning::answer_in` meets its contract.
-use borrow.Author.Rules.{rules}
 use Rattle.planning.proofs.Answering.{too_long, read_refused, both_read, map_answered}
 use Rattle.planning.proofs.answer_in.Goals as goal
 

@@ -1,6 +1,5 @@
 -- `planning::numbers_of` meets its contract.
 use mathlib.Core.Path.{refl}
-use borrow.Author.Rules.{rules}
 use Rattle.planning.proofs.numbers_of.Goals as goal
 
 pub returns-in-Accepted : goal.returns-in-Accepted

@@ -1,6 +1,5 @@
 -- `planning::plan_map` meets its contract.
 use native.Mathlib.Omega.{arith}
-use borrow.Author.Rules.{rules}
 use Rattle.checks.proofs.Valid.{passed_ready}
 use Rattle.planning.proofs.Both.{both_run}
 use Rattle.planning.proofs.plan_map.Goals as goal

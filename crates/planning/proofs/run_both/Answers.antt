@@ -2,7 +2,6 @@
 use native.Mathlib.Omega.{arith}
 use mathlib.Core.Path.{sym}
 use lib.Seq.{length-take-le}
-use borrow.Author.Rules.{rules}
 use Rattle.planning.proofs.Both.{both_returned}
 use Rattle.planning.proofs.run_both.Goals as goal
 

@@ -1,5 +1,4 @@
 -- `planning::write_runs` meets its contract.
-use borrow.Author.Rules.{rules}
 use borrow.Author.Tests.{eq-eqb, ne_eqb}
 use Rattle.planning.specs.Planning.{runs_text}
 use Rattle.planning.proofs.write_runs.Goals as goal

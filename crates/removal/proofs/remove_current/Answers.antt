@@ -4,7 +4,6 @@ use native.Mathlib.Omega.{arith}
 use mathlib.Core.Path.{refl}
 use Rattle.removal.proofs.Counts.{reached_low, roster_long, nodes_few, looks_few, looks_most}
 use Rattle.removal.proofs.Current.{current_node, under, within, segment_is, current_removal}
-use borrow.Author.Rules.{rules}
 use Rattle.removal.proofs.remove_current.Goals as goal
 
 pub current_segment-segment-requires : goal.current_segment-segment-requires

@@ -8,7 +8,6 @@ use mathlib.Core.Path.{refl, ◌∙◌, ap}
 use Rattle.state.specs.Tallies.{looks, after_event}
 use Rattle.removal.proofs.Counts.{reached_low, roster_long, nodes_few, looks_few, looks_most}
 use Rattle.removal.proofs.Listed.{listed_holds, bucket_some, slot_in, distances_long, held, renews, Taken, words_distribute, words_removed}
-use borrow.Author.Rules.{rules}
 use Rattle.removal.proofs.remove_listed.Goals as goal
 
 pub lowest_bucket-bucket-requires : goal.lowest_bucket-bucket-requires
@@ -77,11 +76,11 @@ distribute-moved-requires c =
     let key : ℕ = get_or c.args.distances.now c.least-v.result.0 0 in
     let scanned : State = record { front = key; current = 0; reached = c.args.state.reached + 1; tally = c.looked.result } in
     let taken : Taken key (looks_of c.args.layout.segments c.lowest_bucket-bucket.result c.lowest_segment-segment.result) c.args.state scanned = record {
-  front = refl;
-  current = refl;
-  reached = refl;
-  tally = c.looked.ensures ∙ ap (λ (k : ℕ). after_event (looks k) c.args.state.tally) c.looks_of-looks.ensures;
-} in
+      front = refl;
+      current = refl;
+      reached = refl;
+      tally = c.looked.ensures ∙ ap (λ (k : ℕ). after_event (looks k) c.args.state.tally) c.looks_of-looks.ensures;
+    } in
     let p = c.requires in
     words_distribute p.some_rests.rests p.current_value c.lowest_bucket-bucket.ensures c.lowest_segment-segment.ensures c.least-v.ensures c.scan_slot.ensures
     c.renew_bounds.ensures taken
@@ -91,11 +90,11 @@ returns c X before parents h R =
     let key : ℕ = get_or c.args.distances.now c.least-v.result.0 0 in
     let scanned : State = record { front = key; current = 0; reached = c.args.state.reached + 1; tally = c.looked.result } in
     let taken : Taken key (looks_of c.args.layout.segments c.lowest_bucket-bucket.result c.lowest_segment-segment.result) c.args.state scanned = record {
-  front = refl;
-  current = refl;
-  reached = refl;
-  tally = c.looked.ensures ∙ ap (λ (k : ℕ). after_event (looks k) c.args.state.tally) c.looks_of-looks.ensures;
-} in
+      front = refl;
+      current = refl;
+      reached = refl;
+      tally = c.looked.ensures ∙ ap (λ (k : ℕ). after_event (looks k) c.args.state.tally) c.looks_of-looks.ensures;
+    } in
     words_removed R c.requires.current_value c.lowest_bucket-bucket.ensures c.lowest_segment-segment.ensures c.least-v.ensures c.scan_slot.ensures
     c.renew_bounds.ensures taken c.distribute-moved.ensures
 

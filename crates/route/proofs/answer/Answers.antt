@@ -1,6 +1,5 @@
 -- `route::answer` meets its contract.
 use mathlib.Core.Path.{refl}
-use borrow.Author.Rules.{rules}
 use Rattle.route.proofs.answer.Goals as goal
 
 pub returns-in-Arrived : goal.returns-in-Arrived

@@ -1,5 +1,4 @@
 -- `route::destination_check` meets its contract.
-use borrow.Author.Rules.{rules}
 use Rattle.route.proofs.Checking.{destination_far, parent_missing, destination_passes}
 use Rattle.route.proofs.destination_check.Goals as goal
 

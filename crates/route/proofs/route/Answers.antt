@@ -2,7 +2,6 @@
 use native.Mathlib.Omega.{arith}
 use mathlib.Core.Path.{◌≡◌, refl, sym, ap, ◌∙◌}
 use lib.ListN.{length}
-use borrow.Author.Rules.{rules}
 use Rattle.model.specs.declared.Check.TheVariants.{Passed}
 use Rattle.checks.specs.Checks.{first_fault}
 use Rattle.walk.specs.Walk.{Table}

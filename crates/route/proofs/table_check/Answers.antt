@@ -2,7 +2,6 @@
 use mathlib.Core.Path.{sym, ◌∙◌}
 use mathlib.Core.List.{List, [], ◌∷◌}
 use lib.ListN.{length}
-use borrow.Author.Rules.{rules}
 use Rattle.model.specs.declared.Check.{Check}
 use Rattle.check_numbers.specs.Numbers.{nodes_check, source_check, lent_check}
 use Rattle.check_lists.specs.Lists.{starts_check, heads_check}

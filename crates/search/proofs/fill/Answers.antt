@@ -1,9 +1,6 @@
 -- `search::fill` meets its contract.
-use Prim.Native.Nat.{◌-◌}
 use native.Mathlib.Omega.{arith}
-use lib.ListN.{length}
-use borrow.Author.Rules.{rules}
-use Rattle.search.proofs.Filling.{Filled, filled_start, filled_next, filled_end}
+use Rattle.search.proofs.Filling.{filled_start, filled_next, filled_end}
 use Rattle.search.proofs.fill.Goals as goal
 
 pub loop-i-init : goal.loop-i-init

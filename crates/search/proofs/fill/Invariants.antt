@@ -1,9 +1,7 @@
 -- `search::fill` meets its contract.
 use Prim.Native.Nat.{◌-◌}
-use native.Mathlib.Omega.{arith}
 use lib.ListN.{length}
-use borrow.Author.Rules.{rules}
-use Rattle.search.proofs.Filling.{Filled, filled_start, filled_next, filled_end}
+use Rattle.search.proofs.Filling.{Filled}
 use Rattle.search.proofs.fill.Given as goal
 
 abbrev pub invariant-loop-i : goal.invariant-loop-i

@@ -1,10 +1,5 @@
 -- `search::run` meets its contract.
-use borrow.Author.Rules.{rules}
 use Rattle.theory.specs.Heap.{heap_start}
-use Rattle.state.specs.Stands.{Setting}
-use Rattle.placing.specs.Placing.{lists}
-use Rattle.theory.specs.Maps.{map_of}
-use Rattle.search.specs.Running.{Runs, Steps}
 use Rattle.search.proofs.Stepping.{start_steps}
 use Rattle.search.proofs.run.Goals as goal
 

@@ -1,10 +1,8 @@
 -- `search::scan` meets its contract.
-use Prim.Native.Nat.{◌-◌}
 use native.Mathlib.Omega.{arith}
-use mathlib.Core.Path.{◌≡◌, refl}
-use lib.ListN.{length}
+use mathlib.Core.Path.{refl}
 use borrow.Author.Rules.{rules}
-use Rattle.search.proofs.Arcs.{Scanned, scanned_start, scanned_some, scanned_next, scanned_end}
+use Rattle.search.proofs.Arcs.{scanned_start, scanned_some, scanned_next, scanned_end}
 use Rattle.search.proofs.scan.Goals as goal
 
 pub loop-a-init : goal.loop-a-init
@@ -20,8 +18,7 @@ pub relax-reached-requires : goal.relax-reached-requires
 relax-reached-requires c = scanned_some c.loop-a.invariant.3 c.requires (omega arith)
 
 pub loop-a-preserved : goal.loop-a-preserved
-loop-a-preserved c =
-    (
+loop-a-preserved c = (
   search rules,
   search rules,
   search rules,

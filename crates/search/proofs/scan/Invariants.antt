@@ -1,10 +1,8 @@
 -- `search::scan` meets its contract.
 use Prim.Native.Nat.{◌-◌}
-use native.Mathlib.Omega.{arith}
-use mathlib.Core.Path.{◌≡◌, refl}
+use mathlib.Core.Path.{◌≡◌}
 use lib.ListN.{length}
-use borrow.Author.Rules.{rules}
-use Rattle.search.proofs.Arcs.{Scanned, scanned_start, scanned_some, scanned_next, scanned_end}
+use Rattle.search.proofs.Arcs.{Scanned}
 use Rattle.search.proofs.scan.Given as goal
 
 abbrev pub invariant-loop-a : goal.invariant-loop-a

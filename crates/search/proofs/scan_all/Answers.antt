@@ -1,10 +1,9 @@
 -- `search::scan_all` meets its contract: the measure is how many nodes are not scanned.
-use Prim.Native.Nat.{◌-◌, ◌<◌, ◌+◌}
+use Prim.Native.Nat.{◌<◌, ◌+◌}
 use native.Mathlib.Omega.{arith}
-use mathlib.Core.Path.{◌≡◌, refl}
+use mathlib.Core.Path.{refl}
 use lib.ListN.{length}
-use borrow.Author.Rules.{rules}
-use Rattle.search.proofs.Stepping.{Stepped, stepped_start, stepped_rests, stepped_node, stepped_held, stepped_scans, stepped_next, stepped_less, stepped_end}
+use Rattle.search.proofs.Stepping.{stepped_start, stepped_rests, stepped_node, stepped_held, stepped_scans, stepped_next, stepped_less, stepped_end}
 use Rattle.search.proofs.scan_all.Goals as goal
 
 pub loop-step-init : goal.loop-step-init

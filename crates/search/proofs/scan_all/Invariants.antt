@@ -1,10 +1,8 @@
 -- `search::scan_all` meets its contract: the measure is how many nodes are not scanned.
-use Prim.Native.Nat.{◌-◌, ◌<◌, ◌+◌}
-use native.Mathlib.Omega.{arith}
-use mathlib.Core.Path.{◌≡◌, refl}
+use Prim.Native.Nat.{◌-◌}
+use mathlib.Core.Path.{◌≡◌}
 use lib.ListN.{length}
-use borrow.Author.Rules.{rules}
-use Rattle.search.proofs.Stepping.{Stepped, stepped_start, stepped_rests, stepped_node, stepped_held, stepped_scans, stepped_next, stepped_less, stepped_end}
+use Rattle.search.proofs.Stepping.{Stepped}
 use Rattle.search.proofs.scan_all.Given as goal
 
 abbrev pub invariant-loop-step : goal.invariant-loop-step

@@ -1,15 +1,10 @@
 -- `search::start` meets its contract.
-use Prim.Native.Nat.{ℕ}
 use mathlib.Core.Path.{◌≡◌}
-use mathlib.Core.List.{List, []}
+use mathlib.Core.List.{[]}
 use lib.ListN.{get_or}
 use Rattle.buckets.specs.Words.{places}
-use borrow.Author.Rules.{rules}
 use Rattle.theory.specs.Heap.{heap_blank}
-use Rattle.state.specs.Stands.{Setting}
-use Rattle.placing.specs.Placing.{lists, Labels}
-use Rattle.search.specs.Starts.{Starts}
-use Rattle.search.proofs.Blank.{blank_state, bounds_in, blank_place, start_labels, started}
+use Rattle.search.proofs.Blank.{bounds_in, blank_place, start_labels, started}
 use Rattle.search.proofs.start.Goals as goal
 
 pub first_bounds-requires : goal.first_bounds-requires

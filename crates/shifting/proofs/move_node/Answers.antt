@@ -7,7 +7,6 @@ use Rattle.state.specs.Tallies.{reads, after_event}
 use Rattle.state.proofs.Tallies.{same_tally, same_reads}
 use Rattle.placing.proofs.Entering.{entered_current}
 use Rattle.placing.proofs.Labelling.{entered_low}
-use borrow.Author.Rules.{rules}
 use Rattle.shifting.proofs.move_node.Goals as goal
 
 pub returns-then-bucket-le1 : goal.returns-then-bucket-le1
