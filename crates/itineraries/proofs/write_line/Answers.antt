@@ -12,7 +12,8 @@ put_number-third-requires c =
 pub put_nodes-next-requires : goal.put_nodes-next-requires
 put_nodes-next-requires c =
     let field = c.put_field-second.ensures in
-    let number = c.put_number-third.ensures in record { nodes_in_bounds = omega (
+    let number = c.put_number-third.ensures in record {
+      nodes_in_bounds = omega (
         arith,
         field_most c.args.v.0 c.requires.v_bound.0,
         word_most c.args.distance (omega (arith, c.ranges.distance.fits)),
@@ -22,7 +23,9 @@ put_nodes-next-requires c =
         writes_length number,
         c.requires.line_bytes_in_bounds,
         c.requires.v_bound.1.count,
-      ); few = c.requires.v_bound.1 }
+      );
+      few = c.requires.v_bound.1;
+    }
 
 pub put_byte-requires : goal.put_byte-requires
 put_byte-requires c =

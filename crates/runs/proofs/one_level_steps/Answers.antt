@@ -1,7 +1,6 @@
 -- `runs::one_level_steps` meets its contract.
 use Rattle.theory.specs.Runs.{one}
 use Rattle.runs.proofs.Accepted.{ready_built}
-use borrow.Author.Rules.{rules}
 use Rattle.runs.proofs.one_level_steps.Goals as goal
 
 pub one_level_buckets-buckets-requires : goal.one_level_buckets-buckets-requires

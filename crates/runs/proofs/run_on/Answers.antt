@@ -3,7 +3,6 @@ use native.Mathlib.Omega.{arith}
 use mathlib.Core.Path.{sym, ◌∙◌}
 use lib.Seq.{length-take-le}
 use Rattle.runs.proofs.Fronts.{front_filled, lent_length, front_cleared}
-use borrow.Author.Rules.{rules}
 use Rattle.runs.proofs.run_on.Goals as goal
 
 pub slice_bounds-run-end-2 : goal.slice_bounds-run-end-2

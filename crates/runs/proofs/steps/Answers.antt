@@ -1,7 +1,6 @@
 -- `runs::steps` meets its contract.
 use native.Mathlib.Omega.{arith}
 use Rattle.runs.proofs.Accepted.{top_few, placements_few, ended_ran, built_two, built_slots, built_runs, built_ended}
-use borrow.Author.Rules.{rules}
 use Rattle.runs.proofs.steps.Goals as goal
 
 pub run_on-state-requires : goal.run_on-state-requires

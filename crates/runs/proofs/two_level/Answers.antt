@@ -2,7 +2,6 @@
 use mathlib.Core.Path.{sym, ◌∙◌}
 use Rattle.checks.proofs.Valid.{passed_ready}
 use Rattle.runs.proofs.Accepted.{passed_ran, refused_ran}
-use borrow.Author.Rules.{rules}
 use Rattle.runs.proofs.two_level.Goals as goal
 
 pub returns-in-Fault : goal.returns-in-Fault

@@ -1,7 +1,6 @@
 -- `runs::two_level_steps` meets its contract.
 use Rattle.theory.specs.Runs.{two}
 use Rattle.runs.proofs.Accepted.{ready_built}
-use borrow.Author.Rules.{rules}
 use Rattle.runs.proofs.two_level_steps.Goals as goal
 
 pub two_level_buckets-buckets-requires : goal.two_level_buckets-buckets-requires
