@@ -1,7 +1,7 @@
 /*
  * roosternow.h - cheapest routes by one- and two-level radix heaps, for C11 and C++11.
  *
- * The archive is made by `rt staticlib roosternow` (target/staticlib/libroosternow.a, x86-64 Linux). It needs `memset` of the C library
+ * The archive is made by scripts/archive (target/staticlib/libroosternow.a, x86-64 Linux). It needs `memset` of the C library
  * and nothing else: no heap, no files, no other symbol. Every function below is proved against a contract (crates/roosternow/src)
  * that says what it answers and what it leaves in every lent list, for every input that meets the rules here.
  *

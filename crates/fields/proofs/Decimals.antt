@@ -81,3 +81,6 @@ decimal_least value = digits_least 19 value
 
 pub one_digit_length : (value : ℕ) → value < 10 → length (decimal value) ≡ 1
 one_digit_length value l = ap length (one_digit 19 value l)
+
+pub digit_alone : (value : ℕ) → value < 10 → decimal value ≡ (48 + value) ∷ []
+digit_alone value l = one_digit 19 value l

@@ -13,6 +13,7 @@ pub fn put_byte(buffer: &mut [u8], at: usize, byte: u8) -> usize
 }
 
 // All digits but the last are those of a tenth of the number.
+#[tactic(auto, using(crate::proofs::Decimals::digit_alone))]
 pub fn put_digits(buffer: &mut [u8], at: usize, value: u64) -> usize
     requires { at + length (decimal value) ≤ length buffer.old }
     ensures { Writes at (decimal value) buffer.old buffer.new result }

@@ -102,6 +102,7 @@ pub fn header_line_at(bytes: &[u8], at: usize) -> HeaderLine
 }
 
 // Line 1 with a sixth field, which is 1.
+#[tactic(auto, using(crate::proofs::Fields::other_header))]
 fn held_header_at(bytes: &[u8], at: usize) -> HeaderLine
     requires { at ≤ length bytes.now }
     ensures { result ≡ held_header_of (line_numbers 6 (drop at bytes.now)) }

@@ -81,7 +81,7 @@ arc_lines_pass n C i before (arc ∷ arcs) rest fit (rising.more low node rises)
       arc_read arc (render_arcs arcs ++ rest) fit.0,
       drop-append_seam (line_of_arc arc) (render_arcs arcs ++ rest),
     )
-    (checked.all_passed
+    (checked.all_passed_lem
     (checked.more (test_passes 12 i (or_neither (ltb arc.tail before) (leb n arc.tail) (le-ltb arc.tail before low) (lt-leb n arc.tail node)))
     (checked.more (test_passes 7 i (lt-leb n arc.head r.ends.head_node))
     (checked.more (test_passes 8 i (le-ltb C arc.cost r.cost_most))
@@ -135,6 +135,6 @@ hold_lines_pass C m v (hold ∷ holds) rest fit most =
       hold_read hold (render_holds holds ++ rest) (fit.0, tt),
       drop-append_seam (line_of_hold hold) (render_holds holds ++ rest),
     )
-    (checked.all_passed
+    (checked.all_passed_lem
     (checked.more (test_passes 20 v (le-ltb C hold (most 0 (omega arith))))
     (checked.more (hold_lines_pass C m (suc v) holds rest fit.1 (λ w l. most (suc w) (omega arith))) checked.none)))

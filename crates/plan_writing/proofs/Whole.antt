@@ -1,14 +1,14 @@
 -- The text from its three parts: how long it is and can be. Assumes nothing.
-use Prim.Native.Nat.{ℕ, ◌+◌, ◌*◌, ◌≤◌}
+use Prim.Native.Nat.{ℕ, ◌+◌, ◌≤◌}
 use native.Mathlib.Omega.{arith}
-use mathlib.Core.Path.{◌≡◌, refl, sym, ap, ◌∙◌}
+use mathlib.Core.Path.{◌≡◌}
 use mathlib.Core.List.{List, ◌++◌, append_assoc}
 use lib.ListN.{length, length-append}
 use Rattle.fields.specs.Fields.{comma, render_line}
 use Rattle.line_writing.proofs.Rendered.{line_most}
 use Rattle.plan_text.specs.Rendering.{render_arcs, render_holds}
 use Rattle.plan_text.specs.Files.{arc_at, arc_list}
-use Rattle.plan_writing.specs.Texts.{InOrder, TextLines, text_of}
+use Rattle.plan_writing.specs.Texts.{TextLines, text_of}
 use Rattle.plan_writing.proofs.Walk.{passed_most}
 use Rattle.plan_writing.proofs.Holds.{lines_most}
 

@@ -1,17 +1,16 @@
 -- What the writer answers once its checks are made. Assumes nothing.
-use Prim.Native.Nat.{ℕ, ◌+◌, ◌≤◌}
+use Prim.Native.Nat.{ℕ}
 use native.Mathlib.Nat.{zero-add}
-use native.Mathlib.Omega.{arith}
 use mathlib.Core.Path.{◌≡◌, refl, sym, ap, subst, ◌∙◌}
 use mathlib.Core.List.{List, [], ◌∷◌, ◌++◌, append_assoc}
-use lib.ListN.{length, drop}
+use lib.ListN.{length}
 use Rattle.model.specs.declared.Check.{Check}
 use Rattle.model.specs.declared.Check.TheVariants.{Passed, Fault}
-use Rattle.theory.specs.Runs.{Inputs, two}
+use Rattle.theory.specs.Runs.{Inputs}
 use Rattle.check_numbers.specs.Numbers.{segments_check, lent_check}
-use Rattle.checks.specs.Checks.{first_fault, lent_checks, map_checks, levels_checks}
-use Rattle.checks.proofs.Order.{Made, one, both, stopped, gone_on, pass_parts, passed_all, first_passed}
-use Rattle.checks.proofs.Sizes.{passed_range, passed_lent}
+use Rattle.checks.specs.Checks.{first_fault, lent_checks, map_checks}
+use Rattle.checks.proofs.Order.{one, both, stopped, gone_on, pass_parts, passed_all, first_passed}
+use Rattle.checks.proofs.Sizes.{passed_range}
 use Rattle.checks.proofs.Valid.{passed_valid}
 use Rattle.fields.specs.Writing.{written, Writes}
 use Rattle.plan_text.specs.Files.{plan_file}

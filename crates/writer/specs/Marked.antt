@@ -3,7 +3,6 @@ use Rattle.std.specs.Prelude.{ℕ, List, [], ◌∷◌}
 use Prim.Native.String.{String}
 use Rattle.model.specs.declared.Check.{Check}
 use Rattle.model.specs.declared.Check.TheVariants.{Passed, Fault}
-use Rattle.theory.specs.Maps.{map_of}
 use Rattle.theory.specs.Runs.{Inputs, inputs}
 use Rattle.checks.specs.Checks.{first_fault}
 use Rattle.fields.specs.Texts.{bytes_of}

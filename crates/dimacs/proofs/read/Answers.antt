@@ -26,8 +26,7 @@ returns-in-Fault c =
     let at : ℕ = c.in-ProblemAt.at in
     let found : ProblemFound bytes (ProblemAt c.in-ProblemAt.nodes c.in-ProblemAt.arcs at c.in-ProblemAt.line) = subst (ProblemFound bytes) c.in-ProblemAt.is c.find_problem-problem.ensures in
     let checks : c.problem_check-check.result
-    ≡ road_check bytes c.args.ceiling (length c.args.starts.now) (length c.args.heads.now) (length c.args.costs.now) = c.problem_check-check.ensures
-    ∙ sym (road_check_is bytes c.args.ceiling c.args.starts.now c.args.heads.now c.args.costs.now at found.told) in
+    ≡ road_check bytes c.args.ceiling (length c.args.starts.now) (length c.args.heads.now) (length c.args.costs.now) = rw (road_check_is bytes c.args.ceiling c.args.starts.now c.args.heads.now c.args.costs.now at found.told) c.problem_check-check.ensures in
     refused_promised _ _ _ _ _ (sym checks ∙ c.in-Fault.is)
 
 -- every check has passed
@@ -37,8 +36,7 @@ fill-requires c =
     let at : ℕ = c.in-ProblemAt.at in
     let found : ProblemFound bytes (ProblemAt c.in-ProblemAt.nodes c.in-ProblemAt.arcs at c.in-ProblemAt.line) = subst (ProblemFound bytes) c.in-ProblemAt.is c.find_problem-problem.ensures in
     let checks : c.problem_check-check.result
-    ≡ road_check bytes c.args.ceiling (length c.args.starts.now) (length c.args.heads.now) (length c.args.costs.now) = c.problem_check-check.ensures
-    ∙ sym (road_check_is bytes c.args.ceiling c.args.starts.now c.args.heads.now c.args.costs.now at found.told) in
+    ≡ road_check bytes c.args.ceiling (length c.args.starts.now) (length c.args.heads.now) (length c.args.costs.now) = rw (road_check_is bytes c.args.ceiling c.args.starts.now c.args.heads.now c.args.costs.now at found.told) c.problem_check-check.ensures in
     fillable bytes c.args.ceiling c.args.starts.now c.args.heads.now c.args.costs.now at found.told
     found.within.1 (sym checks ∙ c.in_default.is)
 
@@ -48,7 +46,6 @@ returns-in_default c =
     let at : ℕ = c.in-ProblemAt.at in
     let found : ProblemFound bytes (ProblemAt c.in-ProblemAt.nodes c.in-ProblemAt.arcs at c.in-ProblemAt.line) = subst (ProblemFound bytes) c.in-ProblemAt.is c.find_problem-problem.ensures in
     let checks : c.problem_check-check.result
-    ≡ road_check bytes c.args.ceiling (length c.args.starts.now) (length c.args.heads.now) (length c.args.costs.now) = c.problem_check-check.ensures
-    ∙ sym (road_check_is bytes c.args.ceiling c.args.starts.now c.args.heads.now c.args.costs.now at found.told) in
+    ≡ road_check bytes c.args.ceiling (length c.args.starts.now) (length c.args.heads.now) (length c.args.costs.now) = rw (road_check_is bytes c.args.ceiling c.args.starts.now c.args.heads.now c.args.costs.now at found.told) c.problem_check-check.ensures in
     read_promised bytes c.args.ceiling c.args.starts.now c.args.heads.now c.args.costs.now at
     found.told (sym checks ∙ c.in_default.is) c.fill.ensures

@@ -4,7 +4,6 @@ use mathlib.Core.List.{List}
 use Prim.Native.Nat.{ℕ, ◌+◌}
 use native.Mathlib.Omega.{arith}
 use lib.ListN.{drop, length-drop}
-use borrow.Author.Rules.{rules}
 use Rattle.model.specs.declared.Check.TheVariants.{Passed}
 use Rattle.plan_lines.specs.Told.{lines_taken}
 use Rattle.plan_lines.proofs.Reach.{taken_within}

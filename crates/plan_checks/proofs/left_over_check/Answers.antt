@@ -1,6 +1,5 @@
 use native.Mathlib.Omega.{arith}
 use lib.ListN.{length, drop}
-use borrow.Author.Rules.{rules}
 use borrow.Author.Tests.{lt-ltb, le-ltb}
 use Rattle.check_numbers.specs.Numbers.{fault_if}
 use Rattle.plan_checks.proofs.left_over_check.Goals as goal

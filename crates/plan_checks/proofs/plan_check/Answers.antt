@@ -1,6 +1,5 @@
 -- The lines behind line 1 are checked where it passes.
 use mathlib.Core.Path.{sym, ◌∙◌}
-use borrow.Author.Rules.{rules}
 use Rattle.checks.proofs.Order.{stopped, gone_on}
 use Rattle.plan_checks.proofs.plan_check.Goals as goal
 

@@ -1,10 +1,6 @@
 -- Each line takes its bytes, and an ill-formed one ends them.
-use mathlib.Core.Path.{◌≡◌, sym}
-use Prim.Native.Nat.{ℕ}
-use mathlib.Core.List.{List}
+use mathlib.Core.Path.{sym}
 use native.Mathlib.Omega.{arith}
-use Rattle.cursor.specs.declared.LineNumbers.TheVariants.{NumbersRead}
-use Rattle.cursor.specs.Lines.{line_numbers}
 use Rattle.plan_lines.proofs.Fields.{line_at}
 use Rattle.plan_lines.proofs.Reach.{next_within, reached_start, reached_next, reached_stop, reached_end}
 use Rattle.plan_lines.proofs.lines_taken.Goals as goal

@@ -1,15 +1,9 @@
 -- Every line it asks for is there, and the arcs left decide.
-use mathlib.Core.Path.{◌≡◌, sym, ◌∙◌}
-use Prim.Native.Nat.{◌+◌, ◌-◌, ◌≤◌}
+use mathlib.Core.Path.{sym}
 use native.Mathlib.Omega.{arith}
-use lib.ListN.{length, drop}
-use borrow.Author.Rules.{rules}
-use Rattle.plan_lines.specs.declared.ArcLine.TheVariants.{ArcRead}
-use Rattle.plan_lines.specs.declared.HoldLine.TheVariants.{HoldRead}
-use Rattle.plan_lines.specs.Lines.{arc_line, hold_line}
 use Rattle.plan_lines.proofs.Reach.{next_within}
 use Rattle.plan_lines.proofs.Fields.{arc_line_lem}
-use Rattle.plan_sums.proofs.Summing.{Summing, summing_start, summing_next, summing_end, arc_missing, tail_low, place_within, hold_missing, hold_most, sum_above}
+use Rattle.plan_sums.proofs.Summing.{summing_start, summing_next, summing_end, arc_missing, tail_low, place_within, hold_missing, hold_most, sum_above}
 use Rattle.plan_sums.proofs.arc_sums_check.Goals as goal
 
 pub overflow_sub-tail : goal.overflow_sub-tail

@@ -1,5 +1,4 @@
 use native.Mathlib.Omega.{arith}
-use borrow.Author.Rules.{rules}
 use Rattle.fields.proofs.Written.{writes_then, writes_same, writes_length}
 use Rattle.plan_writing.proofs.Whole.{text_length, text_parts}
 use Rattle.plan_writing.proofs.put_text.Goals as goal
@@ -11,13 +10,16 @@ put_line-arcs-requires c =
 
 pub put_arcs-holds-requires : goal.put_arcs-holds-requires
 put_arcs-holds-requires c =
-    let args = c.args in record { in_order = c.requires.text_lines.in_order; costs_in_bounds = omega (
+    let args = c.args in record {
+      in_order = c.requires.text_lines.in_order;
+      costs_in_bounds = omega (
         arith,
         c.requires.told_in_bounds,
         text_length args.first.now args.n args.starts.now args.heads.now args.costs.now args.told.now,
         c.put_line-arcs.ensures.behind,
         writes_length c.put_line-arcs.ensures,
-      ) }
+      );
+    }
 
 pub put_holds-requires : goal.put_holds-requires
 put_holds-requires c =

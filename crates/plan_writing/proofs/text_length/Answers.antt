@@ -1,5 +1,4 @@
 use native.Mathlib.Omega.{arith}
-use borrow.Author.Rules.{rules}
 use Rattle.plan_writing.proofs.Whole.{text_length, parts_most}
 use Rattle.plan_writing.proofs.text_length.Goals as goal
 

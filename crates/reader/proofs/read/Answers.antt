@@ -1,6 +1,5 @@
 -- What line 1 tells decides.
 use mathlib.Core.Path.{refl, sym, ◌∙◌}
-use borrow.Author.Rules.{rules}
 use Rattle.plan_lines.proofs.Fields.{header_within}
 use Rattle.reader.proofs.Answered.{refused_answered, file_answered}
 use Rattle.reader.proofs.read.Goals as goal

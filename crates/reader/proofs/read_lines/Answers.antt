@@ -1,7 +1,6 @@
 -- Nothing is written where a check fails, and the lists are filled where all pass.
 use mathlib.Core.Path.{sym, ◌∙◌}
-use borrow.Author.Rules.{rules}
-use Rattle.reader.proofs.Answered.{refused_answered, PlanFillable, fillable, read_answered}
+use Rattle.reader.proofs.Answered.{refused_answered, fillable, read_answered}
 use Rattle.reader.proofs.read_lines.Goals as goal
 
 pub returns-in-Fault : goal.returns-in-Fault

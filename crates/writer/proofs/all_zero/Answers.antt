@@ -1,10 +1,8 @@
 -- The holds from v on decide.
-use Prim.Native.Nat.{◌-◌, ◌≤◌}
 use native.Mathlib.Omega.{arith}
-use mathlib.Core.Path.{◌≡◌, refl}
-use lib.ListN.{length}
+use mathlib.Core.Path.{refl}
 use borrow.Author.Rules.{rules}
-use Rattle.writer.proofs.Zero.{ZeroFrom, zero_next, not_zero, zero_all}
+use Rattle.writer.proofs.Zero.{zero_next, not_zero, zero_all}
 use Rattle.writer.proofs.all_zero.Goals as goal
 
 pub returns-then-holds-v-ne0 : goal.returns-then-holds-v-ne0

@@ -1,6 +1,4 @@
 -- Nothing is written where a check fails.
-use mathlib.Core.Path.{◌≡◌, refl}
-use borrow.Author.Rules.{rules}
 use Rattle.theory.specs.Runs.{Inputs, inputs}
 use Rattle.writer.proofs.Answered.{MapFound, map_found, found_writable, map_refused, map_answered}
 use Rattle.writer.proofs.write.Goals as goal

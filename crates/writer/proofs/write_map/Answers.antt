@@ -1,7 +1,6 @@
 -- Six fields and the lines of the holds, unless all holds are 0.
 use native.Mathlib.Omega.{arith}
 use mathlib.Core.Path.{sym, ◌∙◌}
-use borrow.Author.Rules.{rules}
 use Rattle.theory.specs.Runs.{Inputs, inputs}
 use Rattle.writer.proofs.Answered.{text_same}
 use Rattle.writer.proofs.Zero.{plain_text, held_text, plain_lines, held_lines_lem}

@@ -1,14 +1,9 @@
 -- What is left to check is that of the lines behind.
-use mathlib.Core.Path.{◌≡◌, sym, ◌∙◌}
-use Prim.Native.Nat.{◌-◌}
+use mathlib.Core.Path.{sym, ◌∙◌}
 use native.Mathlib.Omega.{arith}
-use lib.ListN.{drop}
-use borrow.Author.Rules.{rules}
-use Rattle.plan_lines.specs.declared.ArcLine.TheVariants.{ArcRead}
-use Rattle.plan_lines.specs.Lines.{arc_line}
 use Rattle.plan_lines.proofs.Reach.{next_within}
 use Rattle.plan_lines.proofs.Fields.{arc_line_lem}
-use Rattle.plan_checks.proofs.Passing.{Checked, checked_start, checked_next, checked_end, line_missing, arc_fails_lem}
+use Rattle.plan_checks.proofs.Passing.{checked_start, checked_next, checked_end, line_missing, arc_fails_lem}
 use Rattle.plan_checks.proofs.arcs.arcs_check.Goals as goal
 
 pub returns-in_default : goal.returns-in_default

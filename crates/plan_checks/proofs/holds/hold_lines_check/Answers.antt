@@ -1,14 +1,9 @@
 -- What is left to check is that of the lines behind.
-use mathlib.Core.Path.{◌≡◌, sym, ◌∙◌}
-use Prim.Native.Nat.{◌-◌}
+use mathlib.Core.Path.{sym}
 use native.Mathlib.Omega.{arith}
-use lib.ListN.{drop}
-use borrow.Author.Rules.{rules}
-use Rattle.plan_lines.specs.declared.HoldLine.TheVariants.{HoldRead}
-use Rattle.plan_lines.specs.Lines.{hold_line}
 use Rattle.plan_lines.proofs.Reach.{next_within}
 use Rattle.plan_lines.proofs.Fields.{hold_line_lem}
-use Rattle.plan_checks.proofs.Passing.{HoldsChecked, lines_start, lines_next, lines_passed, hold_missing, hold_fails}
+use Rattle.plan_checks.proofs.Passing.{lines_start, lines_next, lines_passed, hold_missing, hold_fails}
 use Rattle.plan_checks.proofs.holds.hold_lines_check.Goals as goal
 
 pub returns-in_default : goal.returns-in_default

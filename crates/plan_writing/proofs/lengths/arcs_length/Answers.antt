@@ -1,15 +1,13 @@
 -- The lines of the first a arcs are counted.
-use Prim.Native.Nat.{◌+◌, ◌-◌, ◌≤◌}
+use Prim.Native.Nat.{◌+◌}
 use native.Mathlib.Omega.{arith}
 use mathlib.Core.Path.{◌≡◌, refl}
 use mathlib.Core.List.{[], ◌∷◌}
 use lib.ListN.{length, get_or}
-use borrow.Author.Rules.{rules}
-use Rattle.theory.specs.Sums.{list_below}
 use Rattle.plan_text.specs.Rendering.{render_arcs}
 use Rattle.plan_text.specs.Files.{arc_at}
 use Rattle.line_writing.proofs.Rendered.{line_most}
-use Rattle.plan_writing.proofs.Walk.{Walked, last_start, start_few, walk_start, node_walked, arc_walked, length_walked, passed_most}
+use Rattle.plan_writing.proofs.Walk.{last_start, start_few, walk_start, node_walked, arc_walked, length_walked, passed_most}
 use Rattle.plan_writing.proofs.lengths.arcs_length.Goals as goal
 
 pub bounds-starts-n : goal.bounds-starts-n

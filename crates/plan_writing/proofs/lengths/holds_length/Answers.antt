@@ -1,12 +1,10 @@
 -- The lines of the first v holds are counted.
-use Prim.Native.Nat.{◌-◌, ◌≤◌}
 use native.Mathlib.Omega.{arith}
 use mathlib.Core.Path.{◌≡◌, ap}
 use mathlib.Core.List.{[], ◌∷◌}
-use lib.ListN.{length, get_or, take}
+use lib.ListN.{length, get_or}
 use borrow.Author.Rules.{rules}
 use Rattle.line_writing.proofs.Rendered.{line_most}
-use Rattle.plan_text.specs.Rendering.{render_holds}
 use Rattle.plan_writing.proofs.Holds.{lines_most, no_line, line_next_length, lines_within, lines_all}
 use Rattle.plan_writing.proofs.lengths.holds_length.Goals as goal
 

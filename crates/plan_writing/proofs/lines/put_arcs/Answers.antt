@@ -1,15 +1,12 @@
 -- The lines of the first a arcs are written.
-use Prim.Native.Nat.{◌+◌, ◌-◌, ◌≤◌}
+use Prim.Native.Nat.{◌+◌}
 use native.Mathlib.Omega.{arith}
 use mathlib.Core.Path.{◌≡◌, sym}
 use lib.ListN.{length}
-use borrow.Author.Rules.{rules}
-use Rattle.theory.specs.Sums.{list_below}
-use Rattle.fields.specs.Writing.{Writes}
 use Rattle.fields.proofs.Written.{writes_nothing, writes_then, writes_same, writes_length}
 use Rattle.plan_text.specs.Rendering.{render_arcs}
 use Rattle.plan_text.specs.Files.{arc_at}
-use Rattle.plan_writing.proofs.Walk.{Walked, last_start, start_few, walk_start, node_walked, arc_walked, line_walked, length_walked, passed_within}
+use Rattle.plan_writing.proofs.Walk.{last_start, start_few, walk_start, node_walked, arc_walked, line_walked, length_walked, passed_within}
 use Rattle.plan_writing.proofs.lines.put_arcs.Goals as goal
 
 pub bounds-starts-n : goal.bounds-starts-n

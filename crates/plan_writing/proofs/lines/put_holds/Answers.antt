@@ -1,12 +1,10 @@
 -- The lines of the first i holds are written.
-use Prim.Native.Nat.{◌+◌, ◌-◌, ◌≤◌}
+use Prim.Native.Nat.{◌+◌}
 use native.Mathlib.Omega.{arith}
 use mathlib.Core.Path.{◌≡◌, sym}
-use lib.ListN.{length, take}
+use lib.ListN.{length}
 use borrow.Author.Rules.{rules}
-use Rattle.fields.specs.Writing.{Writes}
 use Rattle.fields.proofs.Written.{writes_nothing, writes_then, writes_same, writes_length}
-use Rattle.plan_text.specs.Rendering.{render_holds}
 use Rattle.plan_writing.proofs.Holds.{no_line, line_next, line_next_length, lines_within, lines_all}
 use Rattle.plan_writing.proofs.lines.put_holds.Goals as goal
 

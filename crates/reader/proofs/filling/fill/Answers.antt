@@ -1,14 +1,9 @@
 -- Each line was checked, and adds one arc to what the lists hold.
-use mathlib.Core.Path.{◌≡◌, sym, ◌∙◌}
-use Prim.Native.Nat.{◌-◌, ◌<◌}
+use mathlib.Core.Path.{sym, ◌∙◌}
 use native.Mathlib.Omega.{arith}
-use lib.ListN.{length, drop}
-use borrow.Author.Rules.{rules}
-use Rattle.plan_lines.specs.declared.ArcLine.TheVariants.{ArcRead}
-use Rattle.plan_lines.specs.Lines.{arc_line}
 use Rattle.plan_lines.proofs.Reach.{next_within, reached_end}
 use Rattle.plan_lines.proofs.Fields.{arc_line_lem}
-use Rattle.reader.proofs.Progress.{Progress, progress_start, progress_next, progress_end, line_read, shown, next_not_past, starts_same_length, heads_same_length, costs_same_length}
+use Rattle.reader.proofs.Progress.{progress_start, progress_next, progress_end, line_read, shown, next_not_past, starts_same_length, heads_same_length, costs_same_length}
 use Rattle.reader.proofs.filling.fill.Goals as goal
 
 pub overflow_cast-end : goal.overflow_cast-end

@@ -1,7 +1,5 @@
-use Prim.Native.Nat.{◌-◌}
 use native.Mathlib.Omega.{arith}
-use borrow.Author.Rules.{rules}
-use Rattle.reader.proofs.Lists.{Between, between_start, between_next, between_end, same_length}
+use Rattle.reader.proofs.Lists.{between_start, between_next, between_end, same_length}
 use Rattle.reader.proofs.filling.fill_between.Goals as goal
 
 pub loop-i-init : goal.loop-i-init

@@ -1,7 +1,6 @@
 -- Zeros, or the holds that are told.
 use mathlib.Core.Path.{◌∙◌}
 use lib.ListN.{drop}
-use borrow.Author.Rules.{rules}
 use Rattle.reader.proofs.Holds.{zeros_filled, holds_told, told_fillable}
 use Rattle.reader.proofs.filling.fill_holds.Goals as goal
 

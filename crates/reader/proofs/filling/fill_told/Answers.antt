@@ -1,14 +1,9 @@
 -- Each line was checked, and adds one hold to what the list holds.
-use mathlib.Core.Path.{◌≡◌, sym, ◌∙◌}
-use Prim.Native.Nat.{◌-◌, ◌<◌}
+use mathlib.Core.Path.{sym}
 use native.Mathlib.Omega.{arith}
-use lib.ListN.{length, drop}
-use borrow.Author.Rules.{rules}
-use Rattle.plan_lines.specs.declared.HoldLine.TheVariants.{HoldRead}
-use Rattle.plan_lines.specs.Lines.{hold_line}
 use Rattle.plan_lines.proofs.Reach.{next_within}
 use Rattle.plan_lines.proofs.Fields.{hold_line_lem}
-use Rattle.reader.proofs.Holds.{HoldsProgress, holds_start, hold_read, hold_next, holds_end, holds_same_length}
+use Rattle.reader.proofs.Holds.{holds_start, hold_read, hold_next, holds_end, holds_same_length}
 use Rattle.reader.proofs.filling.fill_told.Goals as goal
 
 pub overflow_add-line : goal.overflow_add-line

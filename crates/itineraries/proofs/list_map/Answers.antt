@@ -1,0 +1,27 @@
+-- `itineraries::list_map` meets its contract.
+use native.Mathlib.Omega.{arith}
+use mathlib.Core.Path.{sym}
+use lib.Seq.{length-take-le}
+use borrow.Author.Rules.{rules}
+use Rattle.itineraries.proofs.Listing.{run_routable, run_listed}
+use Rattle.itineraries.proofs.list_map.Goals as goal
+
+pub write_routes-requires : goal.write_routes-requires
+write_routes-requires c =
+    let p = c.requires in
+    record { n_in_bounds = omega (arith, p.map_runnable.nodes_fit, p.route_len.1); route_len = p.route_len.0; all_routable = run_routable p.map_runnable _ c.one_level.ensures }
+
+pub returns : goal.returns
+returns c = run_listed c.requires.map_runnable _ c.one_level.ensures c.write_routes.ensures.text c.write_routes.ensures.list
+
+pub slice_bounds-map_starts-end : goal.slice_bounds-map_starts-end
+slice_bounds-map_starts-end c = sym (length-take-le _ _ c.requires.map_runnable.starts_fit)
+
+pub slice_bounds-map_heads-end : goal.slice_bounds-map_heads-end
+slice_bounds-map_heads-end c = sym (length-take-le _ _ c.requires.map_runnable.heads_fit)
+
+pub slice_bounds-map_costs-end : goal.slice_bounds-map_costs-end
+slice_bounds-map_costs-end c = sym (length-take-le _ _ c.requires.map_runnable.costs_fit)
+
+pub slice_bounds-map_holds-end : goal.slice_bounds-map_holds-end
+slice_bounds-map_holds-end c = sym (length-take-le _ _ c.requires.map_runnable.holds_fit)

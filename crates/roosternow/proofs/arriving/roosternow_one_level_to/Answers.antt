@@ -1,0 +1,6 @@
+-- `roosternow::arriving::roosternow_one_level_to` meets its contract.
+use borrow.Author.Rules.{rules}
+use Rattle.roosternow.proofs.arriving.roosternow_one_level_to.Goals as goal
+
+pub returns : goal.returns
+returns c = record { answer = c.one_level_to-one.result; promised = c.one_level_to-one.ensures; numbers = c.run_words.ensures }

@@ -1,0 +1,6 @@
+-- `roosternow::arriving::roosternow_two_level_to` meets its contract.
+use borrow.Author.Rules.{rules}
+use Rattle.roosternow.proofs.arriving.roosternow_two_level_to.Goals as goal
+
+pub returns : goal.returns
+returns c = record { answer = c.two_level_to-two.result; promised = c.two_level_to-two.ensures; numbers = c.run_words.ensures }

@@ -1,0 +1,6 @@
+-- `roosternow::roosternow_read_dimacs` meets its contract.
+use borrow.Author.Rules.{rules}
+use Rattle.roosternow.proofs.roosternow_read_dimacs.Goals as goal
+
+pub returns : goal.returns
+returns c = record { answer = c.read-answer.result; promised = c.read-answer.ensures; numbers = c.dimacs_words.ensures }

@@ -1,0 +1,6 @@
+-- `roosternow::roosternow_route` meets its contract.
+use borrow.Author.Rules.{rules}
+use Rattle.roosternow.proofs.roosternow_route.Goals as goal
+
+pub returns : goal.returns
+returns c = record { answer = c.route-answer.result; promised = c.route-answer.ensures; numbers = c.route_words.ensures }

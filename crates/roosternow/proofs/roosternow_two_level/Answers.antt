@@ -1,0 +1,6 @@
+-- `roosternow::roosternow_two_level` meets its contract.
+use borrow.Author.Rules.{rules}
+use Rattle.roosternow.proofs.roosternow_two_level.Goals as goal
+
+pub returns : goal.returns
+returns c = record { answer = c.two_level-two.result; promised = c.two_level-two.ensures; numbers = c.run_words.ensures }
