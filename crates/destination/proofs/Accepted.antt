@@ -14,7 +14,7 @@ use Rattle.theory.specs.Maps.{none, Map, arcs, Sound}
 use Rattle.theory.specs.Runs.{Inputs, inputs, Levels, heap_buckets, removal_looks}
 use Rattle.theory.proofs.Demands.{allowed_segmented}
 use Rattle.checks.specs.Checks.{first_fault, Ready}
-use Rattle.runs.specs.Promise.{Lent, lent, lengths_of, Ran}
+use Rattle.runs.specs.Promise.{Lent, lengths_of, Ran}
 use Rattle.reversal.specs.Reversed.{reversed, old_numbers, old_number, old_parents, reversed_inputs, steps_to}
 use Rattle.reversal.specs.Demands.{DemandedTo}
 use Rattle.reversal.proofs.Numbers.{old_length}

@@ -1,5 +1,4 @@
 -- `destination::one_level_back` meets its contract: the steps are those of the reversed map.
-use borrow.Author.Rules.{rules}
 use Rattle.destination.specs.Promise.{LentTo, lent_to}
 use Rattle.destination.proofs.Accepted.{reversible, starts_part, heads_part, costs_part, arcs_part, arcs_fit, ready_given}
 use Rattle.destination.proofs.Accepted.{parents_part, parents_fit, parents_kept, renamed_ran}

@@ -1,6 +1,5 @@
 -- `destination::one_level_to` meets its contract.
 use mathlib.Core.Path.{sym, ◌∙◌}
-use borrow.Author.Rules.{rules}
 use Rattle.destination_checks.proofs.Ready.{passed_ready_to}
 use Rattle.destination.proofs.Accepted.{passed_ran_to, refused_ran_to}
 use Rattle.destination.proofs.one_level_to.Goals as goal

@@ -1,5 +1,4 @@
 -- `roosternow::roosternow_one_level` meets its contract.
-use borrow.Author.Rules.{rules}
 use Rattle.roosternow.proofs.roosternow_one_level.Goals as goal
 
 pub returns : goal.returns

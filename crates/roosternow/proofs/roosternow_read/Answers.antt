@@ -1,5 +1,4 @@
 -- `roosternow::roosternow_read` meets its contract.
-use borrow.Author.Rules.{rules}
 use Rattle.roosternow.proofs.roosternow_read.Goals as goal
 
 pub returns : goal.returns

@@ -1,5 +1,4 @@
 -- `roosternow::roosternow_read_dimacs` meets its contract.
-use borrow.Author.Rules.{rules}
 use Rattle.roosternow.proofs.roosternow_read_dimacs.Goals as goal
 
 pub returns : goal.returns

@@ -1,5 +1,4 @@
 -- `roosternow::roosternow_route` meets its contract.
-use borrow.Author.Rules.{rules}
 use Rattle.roosternow.proofs.roosternow_route.Goals as goal
 
 pub returns : goal.returns

@@ -1,5 +1,4 @@
 -- `roosternow::arriving::roosternow_two_level_to` meets its contract.
-use borrow.Author.Rules.{rules}
 use Rattle.roosternow.proofs.arriving.roosternow_two_level_to.Goals as goal
 
 pub returns : goal.returns

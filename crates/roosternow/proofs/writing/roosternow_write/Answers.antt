@@ -1,5 +1,4 @@
 -- `roosternow::writing::roosternow_write` meets its contract.
-use borrow.Author.Rules.{rules}
 use Rattle.roosternow.proofs.writing.roosternow_write.Goals as goal
 
 pub returns : goal.returns
