@@ -48,7 +48,7 @@ fn convert(rt: &(impl Input + Print), ceiling: u32, source: u32, segments: u32) 
     let mut heads = [0u32; 2048];
     let mut costs = [0u32; 2048];
     let mut output = [0u8; 40992];
-    let got = streams::read_full(rt, &mut input)?;
+    let got = streams::read_full(&mut rt.reader(), &mut input)?;
     let written = conversion::answer(
         &input[..got],
         ceiling,

@@ -15,7 +15,7 @@ fn main(rt: HostRuntime) -> io::Result<()> {
     let mut roster = [0u32; 512];
     let mut work = [0u32; 2432];
     let mut output = [0u8; 33280];
-    let got = streams::read_full(&rt, &mut input)?;
+    let got = streams::read_full(&mut rt.reader(), &mut input)?;
     let written = planning::answer(
         &input[..got],
         &mut starts,

@@ -17,7 +17,7 @@ fn main(rt: HostRuntime) -> io::Result<()> {
     let mut work = [0u32; 2432];
     let mut route = [0u32; 512];
     let mut output = [0u8; 1056800];
-    let got = streams::read_full(&rt, &mut input)?;
+    let got = streams::read_full(&mut rt.reader(), &mut input)?;
     let written = itineraries::answer(
         &input[..got],
         &mut starts,

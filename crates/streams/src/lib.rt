@@ -1,4 +1,4 @@
-// Standard input read into a buffer.
+// A stream read into a buffer.
 #![tactic(auto)]
 
 ghost use Rattle.std.specs.Prelude.{◌<◌, ◌≤◌, length, take, IfOk};
@@ -8,7 +8,8 @@ use std::io;
 use std::io::Read;
 
 // Reads until the buffer is full or nothing is left, and returns how many bytes stand at the buffer's start: those that the reader had first.
-fn fill<R: Read>(reader: &mut R, buffer: &mut [u8]) -> io::Result<usize>
+// Of a reading that fails the error is returned.
+pub fn read_full<R: Read>(reader: &mut R, buffer: &mut [u8]) -> io::Result<usize>
     ensures within { IfOk result (λ n. n ≤ length buffer.new) }
     ensures first { IfOk result (λ n. Consumes (R.remaining reader.old) (R.remaining reader.new) (take n buffer.new)) }
     ensures all { IfOk result (λ n. n < length buffer.new → IsAtEnd (R.remaining reader.new)) }
@@ -22,13 +23,4 @@ fn fill<R: Read>(reader: &mut R, buffer: &mut [u8]) -> io::Result<usize>
         done += got;
     }
     Ok(done)
-}
-
-// Reads standard input until the buffer is full or the input ends, and returns how many bytes stand at the buffer's start. Of a reading that
-// fails the error is returned.
-pub fn read_full(rt: &impl Input, buffer: &mut [u8]) -> io::Result<usize>
-    ensures { IfOk result (λ n. n ≤ length buffer.new) }
-{
-    let mut reader = rt.reader();
-    fill(&mut reader, buffer)
 }

@@ -61,6 +61,6 @@ fn act_all(rt: &impl Print, input: &[u8]) -> io::Result<()> {
 
 fn main(rt: HostRuntime) -> io::Result<()> {
     let mut input = [0u8; 65536];
-    let got = streams::read_full(&rt, &mut input)?;
+    let got = streams::read_full(&mut rt.reader(), &mut input)?;
     act_all(&rt, &input[..got])
 }
