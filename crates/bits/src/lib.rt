@@ -14,7 +14,7 @@ use model::Node;
 pub fn insert(words: &mut [u32], n: usize, bits: usize, summary: usize, v: Node)
     requires bit_set { BitSet 32 n bits summary words.old }
     requires v_lt_n { v.0 < n }
-    requires fact { In 32 n bits words.old v.0 → ⊥ }
+    requires not_in { In 32 n bits words.old v.0 → ⊥ }
     ensures { Inserted 32 n bits summary words.old words.new v.0 }
 {
     let node = v.0 as usize;
@@ -22,7 +22,7 @@ pub fn insert(words: &mut [u32], n: usize, bits: usize, summary: usize, v: Node)
     let old = words[bits + i];
     words[bits + i] = old + (1u32 << (node % 32));
     if old == 0 {
-        words[summary + i / 32] = words[summary + i / 32] + (1u32 << (i % 32));
+        words[summary + i / 32] += 1u32 << (i % 32);
     }
 }
 
@@ -38,6 +38,7 @@ pub fn take_smallest(words: &mut [u32], n: usize, bits: usize, summary: usize) -
 }
 
 // The smallest node of the set, which has one: the first word of the summary that is not 0 leads to it.
+#[tactic(auto, using(crate::specs::Sets::Find::word_some))]
 fn smallest(words: &[u32], n: usize, bits: usize, summary: usize) -> usize
     requires bit_set { BitSet 32 n bits summary words.now }
     requires inhabited { Inhabited 32 n bits words.now }
@@ -52,15 +53,16 @@ fn smallest(words: &[u32], n: usize, bits: usize, summary: usize) -> usize
 }
 
 // A node of the set leaves it.
+#[tactic(auto, using(crate::specs::Sets::Change::remove_le, crate::specs::Sets::Change::remove_told_le))]
 fn remove(words: &mut [u32], n: usize, bits: usize, summary: usize, node: usize)
     requires bit_set { BitSet 32 n bits summary words.old }
-    requires fact { In 32 n bits words.old node }
+    requires is_in { In 32 n bits words.old node }
     ensures { Removed 32 n bits summary words.old words.new node }
 {
     let i = node / 32;
     let left = words[bits + i] - (1u32 << (node % 32));
     words[bits + i] = left;
     if left == 0 {
-        words[summary + i / 32] = words[summary + i / 32] - (1u32 << (i % 32));
+        words[summary + i / 32] -= 1u32 << (i % 32);
     }
 }

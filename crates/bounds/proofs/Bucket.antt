@@ -29,6 +29,11 @@ bucket_below u x zero l h = absurd (omega arith)
 bucket_below u x (suc i) l h =
     let e : suc i - 1 ≡ i = omega arith in rw (e, le-ltb (bound u (suc i)) x h)
 
+-- There is no bound to look at.
+pub bucket_none : (u : List ℕ) (x i : ℕ) → i ≡ 0 → bucket_from u x i ≡ 1
+unfolding bucket_from
+bucket_none u x i e = rw e
+
 -- The same of the bounds that are read.
 pub reads_same : (u u' : List ℕ) (x start : ℕ) → ((i : ℕ) → 1 ≤ i → i ≤ start → bound u i ≡ bound u' i)
     → reads_from u x start ≡ reads_from u' x start
@@ -46,6 +51,10 @@ unfolding reads_from
 reads_below u x zero l h = absurd (omega arith)
 reads_below u x (suc i) l h =
     let e : suc i - 1 ≡ i = omega arith in rw (e, le-ltb (bound u (suc i)) x h) (omega arith)
+
+pub reads_none : (u : List ℕ) (x i : ℕ) → i ≡ 0 → reads_from u x i ≡ 0
+unfolding reads_from
+reads_none u x i e = rw e
 
 -- No more bounds are read than there are from where the search starts.
 pub reads_most : (u : List ℕ) (x i : ℕ) → reads_from u x i ≤ i

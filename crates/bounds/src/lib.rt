@@ -26,21 +26,20 @@ pub struct BucketSearch {
 
 // The bucket of a key, searched for from bucket `start` down. The bounds are read one by one, so how many there were is told from where the
 // search ends: no second count runs beside it.
+#[tactic(auto, using(crate::proofs::Bucket::bucket_above, crate::proofs::Bucket::bucket_below, crate::proofs::Bucket::bucket_none, crate::proofs::Bucket::reads_above, crate::proofs::Bucket::reads_below, crate::proofs::Bucket::reads_none))]
 pub fn bucket_of(words: &[u32], n: usize, key: u32, start: usize) -> BucketSearch
     requires start_in_bounds { 4 * n + start < length words.now }
     requires start_bound { start ≤ 32 }
     ensures { (result.bucket ≡ bucket_from (bounds_of n words.now) key start)
         × (result.reads ≡ reads_from (bounds_of n words.now) key start) }
 {
-    let mut i = start;
-    while 0 < i {
+    for i in (1..=start).rev() {
         if bound_of(words, n, i) < key {
             return BucketSearch {
                 bucket: i + 1,
                 reads: (start - i + 1) as u32,
             };
         }
-        i -= 1;
     }
     BucketSearch {
         bucket: 1,
@@ -57,6 +56,7 @@ pub struct HeldSearch {
 }
 
 // The first bound is read, and need not be compared: the search goes on below it.
+#[tactic(auto, using(crate::proofs::Bucket::bucket_below, crate::proofs::Bucket::reads_below, crate::proofs::Bucket::reads_most))]
 pub fn bucket_held(words: &[u32], n: usize, key: u32, start: usize) -> HeldSearch
     requires start_in_bounds { 4 * n + start < length words.now }
     requires le_start { (1 ≤ start) × (start ≤ 32) }
@@ -87,17 +87,15 @@ pub fn set_bounds(
     to: usize,
 )
     requires to_in_bounds { 4 * n + to ≤ length words.old }
-    requires to_in_bounds_2 { to ≤ length sizes.now }
+    requires to_in_sizes { to ≤ length sizes.now }
     requires to_bound { to ≤ 32 }
     requires before_le_end { before ≤ end }
     ensures { words.new ≡ rebound_words n sizes.now end before from to words.old }
 {
     let mut offset = 0;
-    let mut i = from;
-    while i < to {
+    for i in from..to {
         offset += sizes[i] as u64;
         words[4 * n + i] = raised(before, offset, end);
-        i += 1;
     }
 }
 
@@ -115,6 +113,7 @@ fn raised(bound: u32, offset: u64, end: u32) -> u32
 
 // u(1), .., u(B) as they are at first: u(1) is one less than its bucket's size, the others follow from one another as in a removal, and
 // none is above `top`, which is u(B).
+#[tactic(auto, using(crate::proofs::Words::rebound_words_length))]
 pub fn first_bounds(words: &mut [u32], n: usize, sizes: &[u32], buckets: usize, top: u32)
     requires buckets_in_bounds { 4 * n + buckets < length words.old }
     requires sized { Sized buckets sizes.now }
@@ -134,6 +133,7 @@ fn is_segmented(segments: usize, buckets: usize, bucket: usize) -> bool
 }
 
 // The segment of a key that stands in a bucket with this bound; segments are counted from the top of a bucket's range.
+#[tactic(auto, using(crate::proofs::Segments::segmented_below, crate::proofs::Segments::width_positive, crate::proofs::Segments::number_inside, crate::proofs::Segments::number_whole))]
 pub fn segment_of(
     sizes: &[u32],
     segments: usize,
@@ -156,6 +156,7 @@ pub fn segment_of(
 }
 
 // The upper end of a segment of a bucket with this bound.
+#[tactic(auto, using(crate::proofs::Segments::segmented_below, crate::proofs::Segments::width_positive, crate::proofs::Segments::segments_left_most, crate::proofs::Segments::end_inside, crate::proofs::Segments::end_whole))]
 pub fn segment_end(
     sizes: &[u32],
     segments: usize,
@@ -178,6 +179,7 @@ pub fn segment_end(
 }
 
 // Whether a key below the upper end of a segment is in that segment, of a bucket with this bound. This takes no division.
+#[tactic(auto, using(crate::proofs::Segments::segmented_below, crate::proofs::Segments::in_inside, crate::proofs::Segments::in_whole))]
 pub fn is_in_segment(
     sizes: &[u32],
     segments: usize,

@@ -16,27 +16,21 @@
 ghost use Rattle.std.specs.Prelude.{◌≤◌, ◌<◌, length};
 ghost use Rattle.buckets.specs.Words.{bucket_count};
 ghost use Rattle.buckets.specs.Links.{Linked};
-ghost use Rattle.buckets.specs.Answer.{InSlot, Some, FirstIn, EmptyBucket, Earlier, LeastIn};
+ghost use Rattle.buckets.specs.Answer.{InSlot, SomeNode, FirstIn, EmptyBucket, Earlier, LeastIn};
 
 use model::Node;
 
-#[derive(Clone, Copy)]
-pub enum Found {
-    At(Node),
-    Nothing,
-}
-
 // The first node of a slot, or that there is none. O(1).
-pub fn first(words: &[u32], n: usize, slots: usize, segments: usize, slot: usize) -> Found
+pub fn first(words: &[u32], n: usize, slots: usize, segments: usize, slot: usize) -> Option<Node>
     requires linked { Linked n slots segments words.now }
     requires slot_lt_slots { slot < slots }
     ensures { FirstIn n segments slot words.now result }
 {
     let first = words[4 * n + 32 + slot];
     if first == 0 {
-        return Found::Nothing;
+        return None;
     }
-    Found::At(Node(first - 1))
+    Some(Node(first - 1))
 }
 
 // Whether a bucket has no node: one test, of its one slot's head word or of its count word. O(1).
@@ -56,15 +50,7 @@ fn earlier(keys: &[u32], u: usize, v: usize) -> usize
     requires { (u < length keys.now) × (v < length keys.now) }
     ensures { Earlier keys.now u v result }
 {
-    let a = keys[u];
-    let b = keys[v];
-    if a < b {
-        return u;
-    }
-    if b < a {
-        return v;
-    }
-    if u < v {
+    if (keys[u], u) <= (keys[v], v) {
         return u;
     }
     v
@@ -81,7 +67,7 @@ pub fn least(
 ) -> Node
     requires linked { Linked n slots segments words.now }
     requires slot_lt_slots { (slot < slots) × (n ≤ length keys.now) }
-    requires some { Some (InSlot n segments slot words.now) }
+    requires some { SomeNode (InSlot n segments slot words.now) }
     ensures { LeastIn n segments slot words.now keys.now result.0 }
 {
     let first = words[4 * n + 32 + slot] as usize;

@@ -7,12 +7,12 @@ use mathlib.Core.Path.{◌≡◌, ◌∙◌, ap, subst}
 use mathlib.Core.List.Memᴰ
 use mathlib.Core.List.{List, [], ◌∷◌, Memᴰ}
 use lib.ListN.{length}
-use Rattle.model.specs.declared.Check.{Check}
-use Rattle.model.specs.declared.Check.TheVariants.{Passed}
-use Rattle.model.specs.declared.RunAnswer.{RunAnswer}
-use Rattle.model.specs.Answers.{Numbers, numbers_of}
+use Rattle.model.specs.Answers.{Check, RunAnswer, Numbers, numbers_of}
+use Rattle.std.specs.Prelude.{Ok}
 use Rattle.theory.specs.Maps.{Map, arcs, Route}
-use Rattle.theory.specs.Runs.{Inputs, Levels, one, two, heap_buckets, removal_looks, steps_of}
+use Rattle.theory.specs.Runs.{Inputs, heap_buckets, removal_looks, steps_of}
+use Rattle.theory.specs.declared.Levels.{Levels}
+use Rattle.theory.specs.declared.Levels.TheVariants.{One, Two}
 use Rattle.theory.specs.Heap.{Heap, placements}
 use Rattle.theory.specs.Demands.{operations, OperationsBounded, BoundedCounts}
 use Rattle.checks.specs.Checks.{first_fault, run_checks}
@@ -28,8 +28,8 @@ some_listed [] m = absurd (Memᴰ.not-nil m)
 some_listed (x ∷ l) m = omega arith
 
 buckets_some : (L : Levels) (C : ℕ) → 1 ≤ heap_buckets L C
-buckets_some one C = one_some C
-buckets_some (two K) C = two_some C K
+buckets_some One C = one_some C
+buckets_some (Two K) C = two_some C K
 
 -- A bound for r reached nodes, of which there are at most R, as one for R.
 for_most : (number r R k less rest : ℕ) → less ≤ k → r ≤ R → number + less * r ≤ r * k + rest → number ≤ R * (k - less) + rest
@@ -74,7 +74,7 @@ two_level_most_operations n m B K =
 
 -- The numbers of the steps h, as an accepted run gives them back.
 module _ {M : Map} {source B L : ℕ} {h : Heap} {numbers : Numbers} (counts : BoundedCounts M source B L h) (some : 1 ≤ B)
-    (told : numbers ≡ run_numbers Passed B h) where
+    (told : numbers ≡ run_numbers (Ok tt) B h) where
   told_operations : operations_of numbers.counts ≡ operations h
   told_operations = ap (λ (n : Numbers). operations_of n.counts) told
 
@@ -93,8 +93,8 @@ module _ {M : Map} {source B L : ℕ} {h : Heap} {numbers : Numbers} (counts : B
 
 -- Of a run that has passed its checks.
 module _ (L : Levels) (I : Inputs) (l l' : Lent) {answer : RunAnswer}
-    (passed : first_fault (run_checks L I (lengths_of l)) ≡ Passed) (promised : Promised L I answer l l') where
-  accepted : Ran L I Passed answer l l'
+    (passed : first_fault (run_checks L I (lengths_of l)) ≡ Ok tt) (promised : Promised L I answer l l') where
+  accepted : Ran L I (Ok tt) answer l l'
   accepted = subst (λ (k : Check). Ran L I k answer l l') passed promised
 
   -- The heap operations given back are those of the steps.
@@ -111,8 +111,8 @@ module _ (L : Levels) (I : Inputs) (l l' : Lent) {answer : RunAnswer}
 
 -- Of a run to a destination that has passed its checks: the same bounds, with the map's own n and m (document 02, paper 7).
 module _ (L : Levels) (I : Inputs) (l l' : LentTo) {answer : RunAnswer}
-    (passed : first_fault (checks_to L I (lengths_to l)) ≡ Passed) (promised : PromisedTo L I answer l l') where
-  accepted_to : RanTo L I Passed answer l l'
+    (passed : first_fault (checks_to L I (lengths_to l)) ≡ Ok tt) (promised : PromisedTo L I answer l l') where
+  accepted_to : RanTo L I (Ok tt) answer l l'
   accepted_to = subst (λ (k : Check). RanTo L I k answer l l') passed promised
 
   pub run_to_operations : OperationsBounded (operations_of (numbers_of answer).counts) (numbers_of answer).reached (arcs I.map)

@@ -6,15 +6,16 @@ use mathlib.Core.Path.{◌≡◌, refl, sym, ◌∙◌, ap}
 use mathlib.Core.List.{List, [], ◌∷◌, ◌++◌, append_assoc}
 use lib.Dec.{ltb}
 use lib.ListN.{length, get_or, length-append, length-drop}
-use Rattle.model.specs.declared.Check.{Check}
-use Rattle.model.specs.declared.Check.TheVariants.{Passed, Fault}
+use Rattle.model.specs.Answers.{Check, fault_of}
+use Rattle.std.specs.Prelude.{Ok, Err, None, Some}
+use Rattle.model.specs.declared.Kind.TheVariants.{NodeCount, SegmentCount, PlanLine}
+use Rattle.model.specs.declared.Fault.{Fault}
 use Rattle.theory.specs.Shape.{one_level_buckets, two_level_buckets}
 use Rattle.theory.proofs.Shapes.Logarithm.{one_level_most, two_level_most}
 use Rattle.check_numbers.specs.Numbers.{fault_if}
 use Rattle.checks.specs.Checks.{first_fault}
 use Rattle.checks.proofs.Order.{AllPass, none, more, passed_all, pass_parts}
 use Rattle.checks.proofs.Sizes.{passed_range, passed_heads, passed_ceiling}
-use Rattle.fields.specs.declared.LineRead.TheVariants.{Missing, Taken}
 use Rattle.fields.specs.Fields.{Numbers, comma, line_ends, line, decimal, render_fields, render_line}
 use Rattle.fields.specs.Reading.{line_taken, fields_into}
 use Rattle.fields.proofs.Lines.{line_within}
@@ -34,14 +35,14 @@ pub record Sized (n m C K : ℕ) : Type 0 where
   pub segments_low : 2 ≤ K
   pub segments_high : K ≤ 64
 
-pub passed_sized : (n m C K : ℕ) → first_fault (budget_checks n m C K) ≡ Passed → Sized n m C K
+pub passed_sized : (n m C K : ℕ) → first_fault (budget_checks n m C K) ≡ Ok tt → Sized n m C K
 unfolding budget_checks
 passed_sized n m C K e = go (passed_all _ e)
   where
     go : AllPass (budget_checks n m C K) → Sized n m C K
     go (more nodes (more arcs (more ceiling (more segments none)))) =
-        let range = passed_range 1 n 1 4096 nodes in
-        let parts = passed_range 9 K 2 64 segments in
+        let range = passed_range NodeCount n 1 4096 nodes in
+        let parts = passed_range SegmentCount K 2 64 segments in
         record {
           some_node = range.0;
           few_nodes = range.1;
@@ -138,11 +139,11 @@ size_whole n m C K o t = rw (o, t) refl
 
 -- ---- the line
 
-pub missing_text : (bytes : List ℕ) → line_taken (line comma 4 bytes) ≡ Missing → refused_text 11 1 ≡ budget_text bytes
+pub missing_text : (bytes : List ℕ) → line_taken (line comma 4 bytes) ≡ None → refused_text (fault_of PlanLine 1) ≡ budget_text bytes
 unfolding budget_text budget_check
 missing_text bytes e = rw (missing_line (line comma 4 bytes) e) refl
 
-module _ (bytes size : List ℕ) {taken : ℕ} (e : line_taken (line comma 4 bytes) ≡ Taken taken) (f : size ≡ fields_into (line_ends comma 4) bytes (0 ∷ 0 ∷ 0 ∷ 0 ∷ [])) where
+module _ (bytes size : List ℕ) {taken : ℕ} (e : line_taken (line comma 4 bytes) ≡ Some taken) (f : size ≡ fields_into (line_ends comma 4) bytes (0 ∷ 0 ∷ 0 ∷ 0 ∷ [])) where
   numbers_read : line comma 4 bytes ≡ Numbers size taken
   numbers_read = rw f (line_read comma 4 bytes (0 ∷ 0 ∷ 0 ∷ 0 ∷ []) (omega arith) refl e)
 
@@ -150,19 +151,19 @@ module _ (bytes size : List ℕ) {taken : ℕ} (e : line_taken (line comma 4 byt
   line_inside = line_within comma 4 (omega arith) bytes size taken numbers_read
 
   abbrev made : List Check
-  made = budget_checks (get_or size 0 0) (get_or size 1 0) (get_or size 2 0) (get_or size 3 0) ++ (fault_if 11 2 (ltb 0 (length bytes - taken)) ∷ [])
+  made = budget_checks (get_or size 0 0) (get_or size 1 0) (get_or size 2 0) (get_or size 3 0) ++ (fault_if PlanLine 2 (ltb 0 (length bytes - taken)) ∷ [])
 
   check_made : first_fault made ≡ budget_check bytes
   unfolding budget_check
   check_made = rw (numbers_read, length-drop taken bytes) refl
 
-  pub fault_text : {number place : ℕ} → first_fault made ≡ Fault number place → refused_text number place ≡ budget_text bytes
+  pub fault_text : {fault : Fault} → first_fault made ≡ Err fault → refused_text fault ≡ budget_text bytes
   unfolding budget_text
   fault_text g = rw (sym check_made ∙ g) refl
 
-  pub passed_text : first_fault made ≡ Passed → size_text (get_or size 0 0) (get_or size 1 0) (get_or size 2 0) (get_or size 3 0) ≡ budget_text bytes
+  pub passed_text : first_fault made ≡ Ok tt → size_text (get_or size 0 0) (get_or size 1 0) (get_or size 2 0) (get_or size 3 0) ≡ budget_text bytes
   unfolding budget_text
   passed_text g = rw (sym check_made ∙ g, numbers_read) refl
 
-  pub passed_size : first_fault made ≡ Passed → first_fault (budget_checks (get_or size 0 0) (get_or size 1 0) (get_or size 2 0) (get_or size 3 0)) ≡ Passed
-  passed_size g = (pass_parts (budget_checks (get_or size 0 0) (get_or size 1 0) (get_or size 2 0) (get_or size 3 0)) (fault_if 11 2 (ltb 0 (length bytes - taken)) ∷ []) g).0
+  pub passed_size : first_fault made ≡ Ok tt → first_fault (budget_checks (get_or size 0 0) (get_or size 1 0) (get_or size 2 0) (get_or size 3 0)) ≡ Ok tt
+  passed_size g = (pass_parts (budget_checks (get_or size 0 0) (get_or size 1 0) (get_or size 2 0) (get_or size 3 0)) (fault_if PlanLine 2 (ltb 0 (length bytes - taken)) ∷ []) g).0

@@ -1,10 +1,12 @@
 -- How many heap operations a map of a given size can take at the most, and the text of it (demand 3, before a map is known).
-use Rattle.std.specs.Prelude.{ℕ, ◌+◌, ◌-◌, ◌*◌, ◌≤◌, min, ◌≡◌, List, [], ◌∷◌, ◌++◌, ltb, length, get_or, drop}
-use Rattle.model.specs.declared.Check.{Check}
-use Rattle.model.specs.declared.Check.TheVariants.{Passed, Fault}
+use Rattle.std.specs.Prelude.{ℕ, ◌+◌, ◌-◌, ◌*◌, ◌≤◌, min, ◌≡◌, List, [], ◌∷◌, ◌++◌, ltb, length, get_or, drop, Ok, Err}
+use Rattle.model.specs.Answers.{Check, fault_of}
+use Rattle.model.specs.declared.Kind.TheVariants.{PlanLine}
 use Rattle.model.specs.declared.Counts.{Counts}
 use Rattle.model.specs.Answers as answers
-use Rattle.theory.specs.Runs.{Levels, one, two, heap_buckets, removal_looks}
+use Rattle.theory.specs.Runs.{heap_buckets, removal_looks}
+use Rattle.theory.specs.declared.Levels.{Levels}
+use Rattle.theory.specs.declared.Levels.TheVariants.{One, Two}
 use Rattle.check_numbers.specs.Numbers.{fault_if, nodes_check, head_count_check, ceiling_check, segments_check}
 use Rattle.checks.specs.Checks.{first_fault}
 use Rattle.fields.specs.Fields.{Line, NoLine, Numbers, comma, line, render_line}
@@ -78,9 +80,9 @@ budget_checks n m C K = nodes_check n ∷ head_count_check m ∷ ceiling_check C
 
 -- The line by 11, 1, 4, 2 and 9, then left-over bytes (document 01, "What a call returns").
 abbrev pub line_check : Line → (bytes : List ℕ) → Check
-line_check NoLine bytes = Fault 11 1
+line_check NoLine bytes = Err (fault_of PlanLine 1)
 line_check (Numbers values taken) bytes =
-    first_fault (budget_checks (get_or values 0 0) (get_or values 1 0) (get_or values 2 0) (get_or values 3 0) ++ (fault_if 11 2 (ltb 0 (length (drop taken bytes))) ∷ []))
+    first_fault (budget_checks (get_or values 0 0) (get_or values 1 0) (get_or values 2 0) (get_or values 3 0) ++ (fault_if PlanLine 2 (ltb 0 (length (drop taken bytes))) ∷ []))
 
 -- The checks of the input (document 01, "What a call returns").
 unfoldable pub budget_check : (bytes : List ℕ) → Check
@@ -104,12 +106,12 @@ levels_bounds word L n m C = heap_bounds word n m (heap_buckets L C) (removal_lo
 
 -- The bounds of both heaps for a size.
 unfoldable pub size_text : (n m C K : ℕ) → List ℕ
-size_text n m C K = levels_bounds word_one one n m C ++ levels_bounds word_two (two K) n m C
+size_text n m C K = levels_bounds word_one One n m C ++ levels_bounds word_two (Two K) n m C
 
 -- The text for a line whose checks come to `check`.
 abbrev pub budget_lines : Check → Size → List ℕ
-budget_lines Passed size = size_text size.nodes size.arcs size.ceiling size.segments
-budget_lines (Fault number place) size = refused_text number place
+budget_lines (Ok tt) size = size_text size.nodes size.arcs size.ceiling size.segments
+budget_lines (Err fault) size = refused_text fault
 
 -- What `budget` prints.
 unfoldable pub budget_text : (bytes : List ℕ) → List ℕ

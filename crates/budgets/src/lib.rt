@@ -1,15 +1,15 @@
 // From a line n,m,C,K to the most heap operations of both heaps (demand 3).
 #![tactic(auto)]
 
-ghost use Rattle.std.specs.Prelude.{◌≡◌, [], ◌∷◌, ◌++◌, ◌+◌, ◌-◌, ◌*◌, ◌≤◌, ltb, length, drop};
-ghost use Rattle.model.specs.declared.Check.TheVariants.{Passed};
+ghost use Rattle.std.specs.Prelude.{Ok, ◌≡◌, [], ◌∷◌, ◌++◌, ◌+◌, ◌-◌, ◌*◌, ◌≤◌, ltb, length};
+ghost use Rattle.model.specs.declared.Kind.TheVariants.{PlanLine};
 ghost use Rattle.check_numbers.specs.Numbers.{fault_if};
 ghost use Rattle.checks.specs.Checks.{first_fault};
 ghost use Rattle.fields.specs.Writing.{Writes};
 ghost use Rattle.budgets.specs.Budget.{most_reached, Small, budget_checks, bounds_line, heap_bounds, size_text, budget_text};
 
-use fields::LineRead;
-use model::Check;
+use model::{Fault, Kind};
+use theory::Levels;
 
 fn most_reached(nodes: u32, arcs: u32) -> u32
     requires { arcs ≤ 65536 }
@@ -97,39 +97,38 @@ fn write_heap(
 
 // The bounds of both heaps for a size that has passed its checks.
 fn write_size(output: &mut [u8], nodes: u32, arcs: u32, ceiling: u32, segments: u32) -> usize
-    requires segments_value { first_fault (budget_checks nodes arcs ceiling segments) ≡ Passed }
+    requires segments_value { first_fault (budget_checks nodes arcs ceiling segments) ≡ Ok tt }
     requires in_bounds { 320 ≤ length output.old }
     ensures { Writes 0 (size_text nodes arcs ceiling segments) output.old output.new result }
 {
-    let one = sizes::one_level_buckets(ceiling);
-    let two = sizes::two_level_buckets(ceiling, segments);
+    let one = sizes::buckets(Levels::One, ceiling);
+    let two = sizes::buckets(Levels::Two { segments }, ceiling);
     let next = write_heap(output, 0, b"one", nodes, arcs, one, one);
     write_heap(output, next, b"two", nodes, arcs, two, two + segments)
 }
 
 // The checks of a size, then left-over bytes.
-fn size_check(nodes: u32, arcs: u32, ceiling: u32, segments: u32, left: usize) -> Check
-    ensures { result ≡ first_fault (budget_checks nodes arcs ceiling segments ++ (fault_if 11 2 (ltb 0 left) ∷ [])) }
+#[tactic(auto, unfolding(checks::specs::Checks::first_fault, crate::specs::Budget::budget_checks))]
+fn size_check(nodes: u32, arcs: u32, ceiling: u32, segments: u32, left: usize) -> Result<(), Fault>
+    ensures { result ≡ first_fault (budget_checks nodes arcs ceiling segments ++ (fault_if PlanLine 2 (ltb 0 left) ∷ [])) }
 {
-    let found = checks::first_of(
-        check_numbers::nodes_check(nodes),
-        check_numbers::head_count_check(arcs as usize),
-    );
-    let found = checks::first_of(found, check_numbers::ceiling_check(ceiling));
-    let found = checks::first_of(found, check_numbers::segments_check(segments));
-    checks::first_of(found, left_check(left))
+    check_numbers::nodes_check(nodes)?;
+    check_numbers::head_count_check(arcs as usize)?;
+    check_numbers::ceiling_check(ceiling)?;
+    check_numbers::segments_check(segments)?;
+    left_check(left)
 }
 
-fn left_check(left: usize) -> Check
-    ensures { result ≡ fault_if 11 2 (ltb 0 left) }
+fn left_check(left: usize) -> Result<(), Fault>
+    ensures { result ≡ fault_if PlanLine 2 (ltb 0 left) }
 {
     if 0 < left {
-        Check::Fault {
-            number: 11,
+        Err(Fault {
+            kind: Kind::PlanLine,
             place: 2,
-        }
+        })
     } else {
-        Check::Passed
+        Ok(())
     }
 }
 
@@ -139,12 +138,17 @@ fn answer_in(bytes: &[u8], output: &mut [u8]) -> usize
     ensures { Writes 0 (budget_text bytes.now) output.old output.new result }
 {
     let mut size = [0u32; 4];
-    let LineRead::Taken { taken } = fields::reading::line_at(bytes, 0, b',', &mut size) else {
-        return report::write_refusal(output, 11, 1);
+    let Some(taken) = fields::reading::line_at(bytes, 0, b',', &mut size) else {
+        return report::write_refusal(
+            output,
+            Fault {
+                kind: Kind::PlanLine,
+                place: 1,
+            },
+        );
     };
-    let check = size_check(size[0], size[1], size[2], size[3], bytes.len() - taken);
-    if let Check::Fault { number, place } = check {
-        return report::write_refusal(output, number, place);
+    if let Err(fault) = size_check(size[0], size[1], size[2], size[3], bytes.len() - taken) {
+        return report::write_refusal(output, fault);
     }
     write_size(output, size[0], size[1], size[2], size[3])
 }

@@ -8,7 +8,7 @@ use native.Mathlib.Omega.{arith}
 use lib.Dec.{ltb, eqb}
 use lib.ListN.{length, get_or}
 use borrow.Author.Tests.{ltb-true, ltb-false, eqb-true, not-false, lt-ltb, le-ltb, eq-eqb, ne_eqb}
-use Rattle.model.specs.declared.Check.TheVariants.{Passed}
+use Rattle.std.specs.Prelude.{Ok}
 use Rattle.check_lists.specs.Lists.{start_fails, starts_check, NoneFalls}
 use Rattle.check_lists.proofs.Least.{each_passes, passed_each}
 use Rattle.check_lists.proofs.Tests.{or_left, or_right, or_neither, or_turned, or_false, and_second, and_not}
@@ -78,9 +78,9 @@ module _ (n m : ℕ) (starts : List ℕ) where
       let e : k + suc d - 1 ≡ k + d = omega arith in
       le_trans (up_to long rise k d (omega arith)) (rw e at (rise (k + suc d) (omega arith) (omega arith)))
 
-  pub rise_passes : length starts ≡ n + 1 → get_or starts 0 0 ≡ 0 → get_or starts n 0 ≡ m → NoneFalls starts → starts_check n m starts ≡ Passed
+  pub rise_passes : length starts ≡ n + 1 → get_or starts 0 0 ≡ 0 → get_or starts n 0 ≡ m → NoneFalls starts → starts_check n m starts ≡ Ok tt
   unfolding starts_check
-  rise_passes long first last rise = each_passes 6 (start_fails n m starts) (n + 1) (λ k l. fits_passes n m starts k (fits k l))
+  rise_passes long first last rise = each_passes _ (start_fails n m starts) (n + 1) (λ k l. fits_passes n m starts k (fits k l))
     where
       fits : (k : ℕ) → k < n + 1 → Fits n m starts k
       fits k l =
@@ -92,6 +92,6 @@ module _ (n m : ℕ) (starts : List ℕ) where
             last = λ z. rw z last;
           }
 
-  pub passed_fits : starts_check n m starts ≡ Passed → (k : ℕ) → k < n + 1 → Fits n m starts k
+  pub passed_fits : starts_check n m starts ≡ Ok tt → (k : ℕ) → k < n + 1 → Fits n m starts k
   unfolding starts_check
-  passed_fits e k l = passes_fits n m starts k (passed_each 6 (start_fails n m starts) (n + 1) k e l)
+  passed_fits e k l = passes_fits n m starts k (passed_each _ (start_fails n m starts) (n + 1) k e l)

@@ -1,22 +1,23 @@
 -- Numbers 6, 7 and 20, each of which looks at every word of one list (document 01, "What a call returns"; document 02, paper 2).
-use Rattle.std.specs.Prelude.{ℕ, zero, suc, ◌+◌, ◌-◌, ◌≤◌, ◌<◌, Bool, cond, not, ◌&&◌, ◌||◌, List, ltb, leb, eqb, length, get_or}
-use Rattle.model.specs.declared.Check.{Check}
-use Rattle.model.specs.declared.Check.TheVariants.{Passed, Fault}
+use Rattle.std.specs.Prelude.{ℕ, zero, suc, ◌+◌, ◌-◌, ◌≤◌, ◌<◌, Bool, cond, not, ◌&&◌, ◌||◌, List, ltb, leb, eqb, length, get_or, Ok, Err}
+use Rattle.model.specs.Answers.{Check, fault_of}
+use Rattle.model.specs.declared.Kind.{Kind}
+use Rattle.model.specs.declared.Kind.TheVariants.{Starts, Head, Hold}
 
 -- ---- what the checks are made of
 
 -- A test of each index, `left` of them from i on: the least that fails is the place (document 01, "What a call returns").
-unfoldable pub least_fault : (number : ℕ) → (fails : ℕ → Bool) → (i left : ℕ) → Check
-least_fault number fails i zero = Passed
-least_fault number fails i (suc left) = cond (fails i) (Fault number i) (least_fault number fails (suc i) left)
+unfoldable pub least_fault : Kind → (fails : ℕ → Bool) → (i left : ℕ) → Check
+least_fault kind fails i zero = Ok tt
+least_fault kind fails i (suc left) = cond (fails i) (Err (fault_of kind i)) (least_fault kind fails (suc i) left)
 
 -- The word at index i is above a limit (document 01, "What a call returns").
 abbrev pub word_above : (limit : ℕ) → (words : List ℕ) → (i : ℕ) → Bool
 word_above limit words i = ltb limit (get_or words i 0)
 
 -- A limit for each word: the least index of a word above it is the place (document 01, "What a call returns").
-abbrev pub above_check : (number limit : ℕ) → (words : List ℕ) → Check
-above_check number limit words = least_fault number (word_above limit words) 0 (length words)
+abbrev pub above_check : Kind → (limit : ℕ) → (words : List ℕ) → Check
+above_check kind limit words = least_fault kind (word_above limit words) 0 (length words)
 
 -- ---- one definition for each number
 
@@ -30,15 +31,15 @@ start_fails n m starts i =
 
 -- 6: the least such index of 0 to n (document 01, "What a call returns").
 unfoldable pub starts_check : (n m : ℕ) → (starts : List ℕ) → Check
-starts_check n m starts = least_fault 6 (start_fails n m starts) 0 (n + 1)
+starts_check n m starts = least_fault Starts (start_fails n m starts) 0 (n + 1)
 
 -- 7: the least arc whose head is not below n (document 01, "What a call returns").
 unfoldable pub heads_check : (n : ℕ) → (heads : List ℕ) → Check
-heads_check n heads = least_fault 7 (λ a. leb n (get_or heads a 0)) 0 (length heads)
+heads_check n heads = least_fault Head (λ a. leb n (get_or heads a 0)) 0 (length heads)
 
 -- 20: not a hold for each of n nodes, with place 0; or the least node whose hold is above C (document 02, paper 2).
 unfoldable pub holds_check : (n C : ℕ) → (holds : List ℕ) → Check
-holds_check n C holds = cond (eqb (length holds) n) (above_check 20 C holds) (Fault 20 0)
+holds_check n C holds = cond (eqb (length holds) n) (above_check Hold C holds) (Err (fault_of Hold 0))
 
 -- ---- what a pass over a list shows where it finds nothing
 

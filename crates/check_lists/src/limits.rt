@@ -3,34 +3,34 @@
 ghost use Rattle.std.specs.Prelude.{◌≡◌, false, ◌-◌, ◌≤◌, ◌<◌, length};
 ghost use Rattle.check_lists.specs.Lists.{NoneAbove, least_fault, word_above, above_check, heads_check, holds_check};
 
-use model::Check;
+use model::{Fault, Kind};
 
-pub fn heads_check(n: u32, heads: &[u32]) -> Check
+pub fn heads_check(n: u32, heads: &[u32]) -> Result<(), Fault>
     requires { 0 < n }
     ensures { result ≡ heads_check n heads.now }
 {
-    limit_check(7, n - 1, heads)
+    limit_check(Kind::Head, n - 1, heads)
 }
 
-pub fn holds_check(n: u32, ceiling: u32, holds: &[u32]) -> Check
+pub fn holds_check(n: u32, ceiling: u32, holds: &[u32]) -> Result<(), Fault>
     ensures { result ≡ holds_check n ceiling holds.now }
 {
     if holds.len() != n as usize {
-        return Check::Fault {
-            number: 20,
+        return Err(Fault {
+            kind: Kind::Hold,
             place: 0,
-        };
+        });
     }
-    limit_check(20, ceiling, holds)
+    limit_check(Kind::Hold, ceiling, holds)
 }
 
-fn limit_check(number: u32, limit: u32, words: &[u32]) -> Check
-    ensures { result ≡ above_check number limit words.now }
+fn limit_check(kind: Kind, limit: u32, words: &[u32]) -> Result<(), Fault>
+    ensures { result ≡ above_check kind limit words.now }
 {
     if any_above(limit, words) {
-        least_above(number, limit, words, 0, words.len())
+        least_above(kind, limit, words, 0, words.len())
     } else {
-        Check::Passed
+        Ok(())
     }
 }
 
@@ -39,24 +39,26 @@ pub fn any_above(limit: u32, words: &[u32]) -> bool
     ensures some { NoneAbove limit words.now → result ≡ false }
 {
     let mut any = false;
-    let mut i = 0;
-    while i < words.len() {
-        any = any | (words[i] > limit);
-        i += 1;
+    for word in words {
+        any = any | (*word > limit);
     }
     any
 }
 
-pub fn least_above(number: u32, limit: u32, words: &[u32], first: usize, last: usize) -> Check
+pub fn least_above(
+    kind: Kind,
+    limit: u32,
+    words: &[u32],
+    first: usize,
+    last: usize,
+) -> Result<(), Fault>
     requires { last ≤ length words.now }
-    ensures { result ≡ least_fault number (word_above limit words.now) first (last - first) }
+    ensures { result ≡ least_fault kind (word_above limit words.now) first (last - first) }
 {
-    let mut i = first;
-    while i < last {
+    for i in first..last {
         if words[i] > limit {
-            return Check::Fault { number, place: i };
+            return Err(Fault { kind, place: i });
         }
-        i += 1;
     }
-    Check::Passed
+    Ok(())
 }

@@ -3,9 +3,9 @@
 ghost use Rattle.std.specs.Prelude.{◌≡◌, false, ◌+◌, ◌<◌, length};
 ghost use Rattle.check_lists.specs.Lists.{NoneFalls, start_fails, starts_check};
 
-use model::Check;
+use model::{Fault, Kind};
 
-pub fn starts_check(n: u32, arcs: usize, starts: &[u32]) -> Check
+pub fn starts_check(n: u32, arcs: usize, starts: &[u32]) -> Result<(), Fault>
     requires { length starts.now ≡ n + 1 }
     ensures { result ≡ starts_check n arcs starts.now }
 {
@@ -14,7 +14,7 @@ pub fn starts_check(n: u32, arcs: usize, starts: &[u32]) -> Check
     if ends | any_falls(starts) {
         least_start(last, arcs, starts)
     } else {
-        Check::Passed
+        Ok(())
     }
 }
 
@@ -22,29 +22,25 @@ fn any_falls(words: &[u32]) -> bool
     ensures { result ≡ false → NoneFalls words.now }
 {
     let mut any = false;
-    let mut i = 1;
-    while i < words.len() {
+    for i in 1..words.len() {
         any = any | (words[i] < words[i - 1]);
-        i += 1;
     }
     any
 }
 
-fn least_start(n: usize, arcs: usize, starts: &[u32]) -> Check
+fn least_start(n: usize, arcs: usize, starts: &[u32]) -> Result<(), Fault>
     requires { length starts.now ≡ n + 1 }
     ensures { result ≡ starts_check n arcs starts.now }
 {
-    let mut i = 0;
-    while i <= n {
+    for i in 0..starts.len() {
         if start_fails(n, arcs, starts, i) {
-            return Check::Fault {
-                number: 6,
+            return Err(Fault {
+                kind: Kind::Starts,
                 place: i,
-            };
+            });
         }
-        i += 1;
     }
-    Check::Passed
+    Ok(())
 }
 
 fn start_fails(n: usize, arcs: usize, starts: &[u32], i: usize) -> bool

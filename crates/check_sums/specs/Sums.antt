@@ -1,6 +1,7 @@
 -- Number 8, which looks at an arc's cost together with a node's hold (document 02, paper 2).
+use Rattle.model.specs.declared.Kind.TheVariants.{Cost}
 use Rattle.std.specs.Prelude.{ℕ, ◌+◌, ◌≤◌, Bool, List, ltb, length, get_or}
-use Rattle.model.specs.declared.Check.{Check}
+use Rattle.model.specs.Answers.{Check}
 use Rattle.theory.specs.Maps.{map_of, Sound}
 use Rattle.check_lists.specs.Lists.{least_fault, NoneAbove}
 
@@ -10,7 +11,7 @@ sum_fails C paidAt costs holds a = ltb C (get_or costs a 0 + get_or holds (paidA
 
 -- 8: the least such arc. `paidAt` gives the node whose hold is paid with an arc (document 02, paper 2).
 unfoldable pub sums_check : (C : ℕ) → (paidAt : ℕ → ℕ) → (costs holds : List ℕ) → Check
-sums_check C paidAt costs holds = least_fault 8 (sum_fails C paidAt costs holds) 0 (length costs)
+sums_check C paidAt costs holds = least_fault Cost (sum_fails C paidAt costs holds) 0 (length costs)
 
 -- What the numbers before 8 have shown: the lists are those of a map in order, whatever its heads and the source, and no hold is above C
 -- (document 01, "What a call returns"; document 02, paper 2).

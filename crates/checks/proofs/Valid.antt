@@ -6,10 +6,12 @@ use Prim.Native.Nat.{ℕ, suc, ◌+◌, ◌-◌, ◌≤◌}
 use native.Mathlib.Numerals.{add-one}
 use native.Mathlib.Omega.{arith}
 use lib.ListN.{length}
-use Rattle.model.specs.declared.Check.TheVariants.{Passed}
-use Rattle.model.specs.declared.Check.{Check}
+use Rattle.std.specs.Prelude.{Ok}
+use Rattle.model.specs.Answers.{Check}
 use Rattle.theory.specs.Maps.{Map, arcs, tail_of, Sound}
-use Rattle.theory.specs.Runs.{Inputs, ValidInputs, Levels, one, two, Allowed, work_words}
+use Rattle.theory.specs.Runs.{Inputs, ValidInputs, Allowed, work_words}
+use Rattle.theory.specs.declared.Levels.{Levels}
+use Rattle.theory.specs.declared.Levels.TheVariants.{One, Two}
 use Rattle.theory.proofs.Maps.Arcs.{leaves_arc}
 use Rattle.theory.proofs.Maps.Tails.{tail_leaves, tail_is}
 use Rattle.check_numbers.specs.Numbers.{nodes_check, source_check, start_count_check}
@@ -27,19 +29,19 @@ use Rattle.checks.proofs.Sizes.{passed_range, range_passes, passed_ceiling, ceil
 -- The checks of a map that look at no cost and no hold pass. Number 4 and the length of holds stand as what they show, since a route
 -- checks neither costs nor holds.
 pub record ListsPass (M : Map) (source : ℕ) : Type 0 where
-  pub nodes : nodes_check M.nodes ≡ Passed
-  pub from : source_check M.nodes source ≡ Passed
+  pub nodes : nodes_check M.nodes ≡ Ok tt
+  pub from : source_check M.nodes source ≡ Ok tt
   pub few : arcs M ≤ 65536
   pub paired : length M.costs ≡ arcs M
   pub held : length M.holds ≡ M.nodes
-  pub count : start_count_check M.nodes (length M.starts) ≡ Passed
-  pub words : starts_check M.nodes (arcs M) M.starts ≡ Passed
-  pub below : heads_check M.nodes M.heads ≡ Passed
+  pub count : start_count_check M.nodes (length M.starts) ≡ Ok tt
+  pub words : starts_check M.nodes (arcs M) M.starts ≡ Ok tt
+  pub below : heads_check M.nodes M.heads ≡ Ok tt
 
 module _ {M : Map} {source : ℕ} where
   pub passed_sound : ListsPass M source → Sound M source
   passed_sound p =
-      let range = passed_range 1 M.nodes 1 4096 p.nodes in
+      let range = passed_range _ M.nodes 1 4096 p.nodes in
       let fits = passed_fits M.nodes (arcs M) M.starts p.words in
       record {
         some_node = range.0;
@@ -59,7 +61,7 @@ module _ {M : Map} {source : ℕ} where
 
   pub sound_passed : Sound M source → ListsPass M source
   sound_passed s = record {
-    nodes = range_passes 1 M.nodes 1 4096 s.some_node s.few_nodes;
+    nodes = range_passes _ M.nodes 1 4096 s.some_node s.few_nodes;
     from = source_passes M.nodes source s.source_node;
     few = s.few_arcs;
     paired = s.costs_length;
@@ -126,10 +128,10 @@ module _ (I : Inputs) where
         holds_most = each.1;
       }
 
-  pub passed_ordered : first_fault (lists_checks I) ≡ Passed → Ordered I
+  pub passed_ordered : first_fault (lists_checks I) ≡ Ok tt → Ordered I
   passed_ordered e = ordered (passed_all (lists_checks I) e)
 
-  pub ordered_passed : Ordered I → first_fault (lists_checks I) ≡ Passed
+  pub ordered_passed : Ordered I → first_fault (lists_checks I) ≡ Ok tt
   unfolding size_checks lists_checks
   ordered_passed o =
       let p = sound_passed o.sound in
@@ -145,7 +147,7 @@ module _ (I : Inputs) where
   abbrev tails : ℕ → ℕ
   tails a = tail_of n I.map.starts a
 
-  summed_valid : Ordered I → tail_sums_check I ≡ Passed → ValidInputs I
+  summed_valid : Ordered I → tail_sums_check I ≡ Ok tt → ValidInputs I
   summed_valid o e =
       let sums = passed_sums C tails costs holds e in
       record {
@@ -163,56 +165,56 @@ module _ (I : Inputs) where
     holds_most = λ i l. v.holds_most i (omega (arith, v.sound.holds_length));
   }
 
-  valid_summed : ValidInputs I → tail_sums_check I ≡ Passed
+  valid_summed : ValidInputs I → tail_sums_check I ≡ Ok tt
   valid_summed v =
       sums_pass C tails costs holds
       (λ a l. v.sums_most a (tails a) (tail_leaves v.sound a (omega (arith, v.sound.costs_length))))
 
   -- whichever hold 8 looks at
   module _ (sums : Check) where
-    passed_summed : first_fault (summed_checks I sums) ≡ Passed → Ordered I × (sums ≡ Passed)
+    passed_summed : first_fault (summed_checks I sums) ≡ Ok tt → Ordered I × (sums ≡ Ok tt)
     passed_summed e =
         let p = pass_parts (lists_checks I) (sums ∷ []) e in
         (passed_ordered p.0, first_passed (passed_all (sums ∷ []) p.1))
 
-    summed_passed : Ordered I → sums ≡ Passed → first_fault (summed_checks I sums) ≡ Passed
+    summed_passed : Ordered I → sums ≡ Ok tt → first_fault (summed_checks I sums) ≡ Ok tt
     summed_passed o e = parts_pass (lists_checks I) (sums ∷ []) (ordered_passed o) (all_passed_lem (more e none))
 
-  pub passed_valid : first_fault (map_checks I) ≡ Passed → ValidInputs I
+  pub passed_valid : first_fault (map_checks I) ≡ Ok tt → ValidInputs I
   unfolding map_checks
   passed_valid e = let p = passed_summed (tail_sums_check I) e in summed_valid p.0 p.1
 
-  pub valid_passed : ValidInputs I → first_fault (map_checks I) ≡ Passed
+  pub valid_passed : ValidInputs I → first_fault (map_checks I) ≡ Ok tt
   unfolding map_checks
   valid_passed v = summed_passed (tail_sums_check I) (valid_ordered v) (valid_summed v)
 
 -- ---- a call that runs
 
 -- K is allowed exactly if its check passes
-pub passed_allowed : (L : Levels) → first_fault (levels_checks L) ≡ Passed → Allowed L
-passed_allowed one e = tt
-passed_allowed (two K) e = passed_range 9 K 2 64 (first_passed (passed_all _ e))
+pub passed_allowed : (L : Levels) → first_fault (levels_checks L) ≡ Ok tt → Allowed L
+passed_allowed One e = tt
+passed_allowed (Two K) e = passed_range _ K 2 64 (first_passed (passed_all _ e))
 
-allowed_passes : (L : Levels) → Allowed L → first_fault (levels_checks L) ≡ Passed
-allowed_passes one a = all_passed_lem none
-allowed_passes (two K) a = all_passed_lem (more (range_passes 9 K 2 64 a.0 a.1) none)
+allowed_passes : (L : Levels) → Allowed L → first_fault (levels_checks L) ≡ Ok tt
+allowed_passes One a = all_passed_lem none
+allowed_passes (Two K) a = all_passed_lem (more (range_passes _ K 2 64 a.0 a.1) none)
 
 -- The checks of a call that runs pass exactly if these do, whichever hold 8 looks at and whichever lists are lent.
 module _ (L : Levels) (I : Inputs) (sums : Check) (lists : List LentList) where
   pub record CallPasses : Type 0 where
     pub ordered : Ordered I
-    pub summed : sums ≡ Passed
+    pub summed : sums ≡ Ok tt
     pub allowed : Allowed L
     pub lent : AllPass (lent_checks 0 lists)
 
-  pub passed_call : first_fault (call_checks L I sums lists) ≡ Passed → CallPasses
+  pub passed_call : first_fault (call_checks L I sums lists) ≡ Ok tt → CallPasses
   passed_call e =
       let p = pass_parts (summed_checks I sums) (levels_checks L ++ lent_checks 0 lists) e in
       let q = pass_parts (levels_checks L) (lent_checks 0 lists) p.1 in
       let map = passed_summed I sums p.0 in
       record { ordered = map.0; summed = map.1; allowed = passed_allowed L q.0; lent = passed_all (lent_checks 0 lists) q.1 }
 
-  pub call_passed : CallPasses → first_fault (call_checks L I sums lists) ≡ Passed
+  pub call_passed : CallPasses → first_fault (call_checks L I sums lists) ≡ Ok tt
   call_passed p =
       parts_pass (summed_checks I sums) (levels_checks L ++ lent_checks 0 lists) (summed_passed I sums p.ordered p.summed)
       (parts_pass (levels_checks L) (lent_checks 0 lists) (allowed_passes L p.allowed) (all_passed_lem p.lent))
@@ -244,13 +246,13 @@ module _ (L : Levels) (I : Inputs) (room : Lengths) where
 
 -- The checks of a run pass exactly if it can be made.
 module _ {L : Levels} {I : Inputs} {room : Lengths} where
-  pub passed_ready : first_fault (run_checks L I room) ≡ Passed → Ready L I room
+  pub passed_ready : first_fault (run_checks L I room) ≡ Ok tt → Ready L I room
   unfolding run_checks
   passed_ready e =
       let p = passed_call L I (tail_sums_check I) (lists L I room) e in
       ready L I room (summed_valid I p.ordered p.summed) p.allowed p.lent
 
-  pub ready_passed : Ready L I room → first_fault (run_checks L I room) ≡ Passed
+  pub ready_passed : Ready L I room → first_fault (run_checks L I room) ≡ Ok tt
   unfolding run_checks
   ready_passed r =
       call_passed L I (tail_sums_check I) (lists L I room)

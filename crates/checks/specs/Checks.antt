@@ -1,20 +1,21 @@
 -- The order in which each entry point makes the checks of what a call is given (document 01, "What a call returns"; document 02, paper 2).
-use Rattle.std.specs.Prelude.{ℕ, suc, ◌+◌, ◌≤◌, List, [], ◌∷◌, ◌++◌, length}
-use Rattle.model.specs.declared.Check.{Check}
-use Rattle.model.specs.declared.Check.TheVariants.{Passed, Fault}
+use Rattle.std.specs.Prelude.{ℕ, suc, ◌+◌, ◌≤◌, List, [], ◌∷◌, ◌++◌, length, Ok, Err}
+use Rattle.model.specs.Answers.{Check}
 use Rattle.check_numbers.specs.Numbers.{nodes_check, ceiling_check, source_check, arc_count_check, start_count_check, segments_check, lent_check}
 use Rattle.check_lists.specs.Lists.{starts_check, heads_check, holds_check}
 use Rattle.check_sums.specs.Sums.{sums_check}
 use Rattle.theory.specs.Maps.{tail_of}
-use Rattle.theory.specs.Runs.{Inputs, ValidInputs, Levels, one, two, Allowed, work_words}
+use Rattle.theory.specs.Runs.{Inputs, ValidInputs, Allowed, work_words}
+use Rattle.theory.specs.declared.Levels.{Levels}
+use Rattle.theory.specs.declared.Levels.TheVariants.{One, Two}
 
 -- ---- what the order is made of
 
 -- Checks made in order: the first fault decides (document 01, "What a call returns").
 unfoldable pub first_fault : List Check → Check
-first_fault [] = Passed
-first_fault (Passed ∷ checks) = first_fault checks
-first_fault (Fault number place ∷ checks) = Fault number place
+first_fault [] = Ok tt
+first_fault (Ok tt ∷ checks) = first_fault checks
+first_fault (Err fault ∷ checks) = Err fault
 
 -- A lent list, by its words and the words that it needs (document 01, "What a call returns").
 pub record LentList : Type 0 where
@@ -84,8 +85,8 @@ run_lists n lengths needed =
 
 -- 9, which a one-level run does not make (document 01, "What a call returns").
 abbrev pub levels_checks : Levels → List Check
-levels_checks one = []
-levels_checks (two K) = segments_check K ∷ []
+levels_checks One = []
+levels_checks (Two K) = segments_check K ∷ []
 
 -- The order of every call that runs: 1 to 6, 20, 7 and 8, then 9 for two levels, then 10 for the lent lists (document 01, "What a call
 -- returns"; document 02, papers 2 and 7).

@@ -4,9 +4,12 @@ use Prim.Native.Nat.{ℕ}
 use Prim.Native.String.{String}
 use mathlib.Core.Path.{◌≡◌, refl, ap, subst, ◌∙◌}
 use mathlib.Core.List.{List, [], ◌∷◌, ◌++◌}
-use Rattle.model.specs.declared.Check.TheVariants.{Passed}
+use Rattle.std.specs.Prelude.{Ok}
+use Rattle.model.specs.Answers.{fault_of}
+use Rattle.model.specs.declared.Kind.TheVariants.{Source, SegmentCount, RoadOrder}
 use Rattle.theory.specs.Maps.{tail_from_lem}
-use Rattle.theory.specs.Runs.{Inputs, two}
+use Rattle.theory.specs.Runs.{Inputs}
+use Rattle.theory.specs.declared.Levels.TheVariants.{Two}
 use Rattle.check_numbers.specs.Numbers.{fault_if}
 use Rattle.check_lists.specs.Lists.{least_fault, start_fails, starts_check, heads_check, holds_check}
 use Rattle.check_sums.specs.Sums.{sums_check}
@@ -19,9 +22,8 @@ use Rattle.dimacs_lines.specs.Lines.{begins, comment_from, road_line, lines_from
 use Rattle.dimacs_checks.specs.Checking.{heading_from, problem_checks, road_arc_checks, lines_check, road_check}
 use Rattle.dimacs.specs.Roads.{line_arcs, road_inputs}
 use Rattle.dimacs.specs.Marked.{shuffled}
-use Rattle.reader.specs.declared.PlanAnswer.{PlanAnswer}
 use Rattle.reader.specs.Plans.{plan_of, plan_run}
-use Rattle.reader.specs.Promise.{PlanPromised}
+use Rattle.reader.specs.Promise.{PlanAnswer, PlanPromised}
 use Rattle.report.specs.Report.{refused_text}
 use Rattle.plan_text.specs.Rendering.{render_arcs, all_zero, render_plan}
 use Rattle.plan_text.specs.Files.{plan_file}
@@ -34,19 +36,19 @@ use Rattle.conversion.proofs.Reading.{passed_writable, room_enough}
 -- ---- the output
 
 -- The writer's 10 cannot come (document 02, paper 5).
-pub output_enough : (bytes : List ℕ) (C source K : ℕ) → road_file_check bytes C ≡ Passed
-    → first_fault (write_checks (road_inputs bytes C source) K 40992) ≡ first_fault (map_checks (road_inputs bytes C source) ++ levels_checks (two K))
+pub output_enough : (bytes : List ℕ) (C source K : ℕ) → road_file_check bytes C ≡ Ok tt
+    → first_fault (write_checks (road_inputs bytes C source) K 40992) ≡ first_fault (map_checks (road_inputs bytes C source) ++ levels_checks (Two K))
 output_enough bytes C source K e = room_enough bytes C source K e
 
 -- ---- a road file that is converted
 
-module _ (bytes : List ℕ) (C source K : ℕ) (converted : conversion_check bytes C source K ≡ Passed) where
+module _ (bytes : List ℕ) (C source K : ℕ) (converted : conversion_check bytes C source K ≡ Ok tt) where
   abbrev I : Inputs
   I = road_inputs bytes C source
 
   writable : Writable I K
   unfolding conversion_check
-  writable = passed_writable bytes C source K (pass_parts (road_file_check bytes C ∷ []) (map_checks I ++ levels_checks (two K)) converted).1
+  writable = passed_writable bytes C source K (pass_parts (road_file_check bytes C ∷ []) (map_checks I ++ levels_checks (Two K)) converted).1
 
   text_is : conversion_text bytes C source K ≡ plan_file I K
   unfolding conversion_text
@@ -77,6 +79,7 @@ unfolding conversion_text conversion_check road_file_check road_check heading_fr
 listing_converted = refl
 
 -- The reader's numbers come first, then the writer's (document 02, paper 5).
-pub refusals_printed : printed "" 9 0 3 ∷ printed shuffled 9 5 3 ∷ printed shuffled 9 0 1 ∷ [] ≡ refused_text 19 1 ∷ refused_text 3 0 ∷ refused_text 9 0 ∷ []
+pub refusals_printed : printed "" 9 0 3 ∷ printed shuffled 9 5 3 ∷ printed shuffled 9 0 1 ∷ [] ≡
+    refused_text (fault_of RoadOrder 1) ∷ refused_text (fault_of Source 0) ∷ refused_text (fault_of SegmentCount 0) ∷ []
 unfolding conversion_text conversion_check road_file_check road_check heading_from problem_checks lines_check road_arc_checks lines_from road_line comment_from begins digits number_from is_field field fields line_arcs keys_below having groups_from starts_from bytes_of first_fault lent_checks size_checks lists_checks map_checks sums_check starts_check heads_check holds_check least_fault start_fails fault_if tail_from_lem
 refusals_printed = refl

@@ -2,26 +2,22 @@
 use Prim.Native.Nat.{ℕ, zero, suc, ◌+◌, ◌≤◌}
 use native.Mathlib.Nat.{zero-add}
 use native.Mathlib.Omega.{arith}
-use mathlib.Core.Bool.{false}
 use mathlib.Core.Path.{◌≡◌, refl, sym, ap, subst, ◌∙◌}
 use mathlib.Core.List.{List, [], ◌∷◌}
 use lib.ListN.{length, take, replicate}
-use Rattle.model.specs.declared.Check.{Check}
-use Rattle.model.specs.declared.Check.TheVariants.{Passed, Fault}
-use Rattle.model.specs.Answers.{all_passed}
+use Rattle.std.specs.Prelude.{Ok, Err}
+use Rattle.model.specs.Answers.{Check}
+use Rattle.model.specs.declared.Fault.{Fault}
 use Rattle.theory.specs.Runs.{Inputs, inputs}
-use Rattle.theory.proofs.Cases.{differ}
 use Rattle.check_numbers.specs.Numbers.{segments_check}
 use Rattle.checks.specs.Checks.{first_fault, lent_checks, map_checks}
 use Rattle.checks.proofs.Order.{passed_all, first_passed, pass_parts}
 use Rattle.checks.proofs.Sizes.{passed_lent}
 use Rattle.fields.specs.Writing.{written, Writes}
-use Rattle.reader.proofs.Told.{passed_told}
 use Rattle.report.specs.Report.{refused_text}
 use Rattle.plan_text.specs.Files.{plan_file}
-use Rattle.writer.specs.declared.WriteAnswer.{WriteAnswer}
-use Rattle.writer.specs.declared.WriteAnswer.TheVariants.{Written, Refused}
-use Rattle.writer.specs.Promise.{WriteNumbers, write_numbers, write_numbers_of, was_written, write_checks, WriteAnswered, WritePromised}
+use Rattle.writer.specs.Promise.{WriteAnswer, write_checks, WriteAnswered, WritePromised}
+use Rattle.writer.proofs.Answered.{answer_passed, answer_refused, answer_size}
 use Rattle.conversion.specs.Conversion.{text_or_refusal, front_inputs}
 
 -- ---- the holds
@@ -34,16 +30,8 @@ take_replicate (suc k) (suc count) word l = ap (λ (words : List ℕ). word ∷ 
 
 -- ---- the answer
 
-fault_told : (check : Check) (text : List ℕ) (number place : ℕ) → false ≡ all_passed check
-    → write_numbers_of (Refused number place) ≡ write_numbers check text → check ≡ Fault number place
-fault_told Passed text number place e f = differ (cc)
-fault_told (Fault k at) text number place e f =
-    let same_number : number ≡ k = ap (λ (n : WriteNumbers). n.returned) f in
-    let same_place : place ≡ at = ap (λ (n : WriteNumbers). n.place) f in
-    rw (same_number, same_place) refl
-
 module _ (I : Inputs) (K : ℕ) where
-  accepted_fits : (room : ℕ) → first_fault (write_checks I K room) ≡ Passed → length (plan_file I K) ≤ room
+  accepted_fits : (room : ℕ) → first_fault (write_checks I K room) ≡ Ok tt → length (plan_file I K) ≤ room
   unfolding write_checks lent_checks
   accepted_fits room e =
       let p = pass_parts (map_checks I) _ e in
@@ -61,12 +49,12 @@ module _ (I : Inputs) (K : ℕ) where
     abbrev Printed : (after : List ℕ) → (size : ℕ) → Type 0
     Printed after size = Writes 0 (text_or_refusal check (plan_file I K)) output after size
 
-    file_written : {size : ℕ} → answer ≡ Written size → Printed output' size
+    file_written : {size : ℕ} → answer ≡ Ok size → Printed output' size
     unfolding written
     file_written {size} a =
-        let passed : check ≡ Passed = passed_told check (sym (ap was_written a) ∙ P.written) in
+        let passed : check ≡ Ok tt = answer_passed check (plan_file I K) (sym a ∙ P.answered) in
         let told = subst Told passed P in
-        let size_told_lem : size ≡ length (plan_file I K) = ap (λ (k : WriteNumbers). k.length) (sym (ap write_numbers_of a) ∙ told.numbers) in
+        let size_told_lem : size ≡ length (plan_file I K) = answer_size (plan_file I K) (sym a ∙ told.answered) in
         rw passed
         (record {
           told = told.bytes_after ∙ rw (zero-add (length (plan_file I K))) refl;
@@ -74,12 +62,12 @@ module _ (I : Inputs) (K : ℕ) where
           fits = omega (arith, accepted_fits (length output) passed);
         })
 
-    refusal_written : {number place : ℕ} {after : List ℕ} {size : ℕ} → answer ≡ Refused number place
-        → Writes 0 (refused_text number place) output' after size → Printed after size
-    refusal_written {number} {place} {after} {size} a W =
-        let fault = fault_told check (plan_file I K) number place (sym (ap was_written a) ∙ P.written) (sym (ap write_numbers_of a) ∙ P.numbers) in
-        let told = subst Told fault P in
-        rw fault (subst (λ (before : List ℕ). Writes 0 (refused_text number place) before after size) told.bytes_after W)
+    refusal_written : {fault : Fault} {after : List ℕ} {size : ℕ} → answer ≡ Err fault
+        → Writes 0 (refused_text fault) output' after size → Printed after size
+    refusal_written {fault} {after} {size} a W =
+        let refused : check ≡ Err fault = answer_refused check (plan_file I K) (sym a ∙ P.answered) in
+        let told = subst Told refused P in
+        rw refused (subst (λ (before : List ℕ). Writes 0 (refused_text fault) before after size) told.bytes_after W)
 
 -- ---- a map at the front of lists
 
@@ -93,13 +81,13 @@ module _ (n m C source : ℕ) (starts heads costs : List ℕ) (few : n ≤ 512) 
     front_promised : WritePromised (front_inputs n m C source starts heads costs) K output output' answer
     front_promised = subst (λ (I : Inputs). WritePromised I K output output' answer) front_is P
 
-    pub front_written : {size : ℕ} → answer ≡ Written size
+    pub front_written : {size : ℕ} → answer ≡ Ok size
         → Writes 0
         (text_or_refusal (first_fault (write_checks (front_inputs n m C source starts heads costs) K (length output))) (plan_file (front_inputs n m C source starts heads costs) K))
         output output' size
     front_written a = file_written (front_inputs n m C source starts heads costs) K front_promised a
 
-    pub front_refused : {number place : ℕ} {after : List ℕ} {size : ℕ} → answer ≡ Refused number place → Writes 0 (refused_text number place) output' after size
+    pub front_refused : {fault : Fault} {after : List ℕ} {size : ℕ} → answer ≡ Err fault → Writes 0 (refused_text fault) output' after size
         → Writes 0
         (text_or_refusal (first_fault (write_checks (front_inputs n m C source starts heads costs) K (length output))) (plan_file (front_inputs n m C source starts heads costs) K))
         output after size

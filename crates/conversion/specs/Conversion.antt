@@ -1,9 +1,9 @@
 -- What `convert` prints for every road file, C, source and K (document 02, papers 1 and 5).
-use Rattle.std.specs.Prelude.{ℕ, ◌+◌, ◌≤◌, cond, ◌≡◌, List, ◌∷◌, ◌++◌, ltb, length, take, replicate}
-use Rattle.model.specs.declared.Check.{Check}
-use Rattle.model.specs.declared.Check.TheVariants.{Passed, Fault}
-use Rattle.model.specs.Answers.{words_after}
-use Rattle.theory.specs.Runs.{Inputs, inputs, two}
+use Rattle.std.specs.Prelude.{ℕ, ◌+◌, ◌≤◌, cond, ◌≡◌, List, ◌∷◌, ◌++◌, ltb, length, take, replicate, Ok, Err}
+use Rattle.model.specs.Answers.{Check, fault_of, words_after}
+use Rattle.model.specs.declared.Kind.TheVariants.{InputSize}
+use Rattle.theory.specs.Runs.{Inputs, inputs}
+use Rattle.theory.specs.declared.Levels.TheVariants.{Two}
 use Rattle.checks.specs.Checks.{first_fault, map_checks, levels_checks}
 use Rattle.fields.specs.Writing.{Writes}
 use Rattle.dimacs_checks.specs.Checking.{road_check}
@@ -16,16 +16,16 @@ use Rattle.plan_text.specs.Files.{plan_file}
 -- 13 before any line is read, then the reader's checks of a road file, with `plan`'s limits (document 01, "Planning file"; document 02,
 -- papers 1 and 5).
 unfoldable pub road_file_check : (bytes : List ℕ) → (C : ℕ) → Check
-road_file_check bytes C = cond (ltb 65536 (length bytes)) (Fault 13 0) (road_check bytes C 513 2048 2048)
+road_file_check bytes C = cond (ltb 65536 (length bytes)) (Err (fault_of InputSize 0)) (road_check bytes C 513 2048 2048)
 
 -- The reader's checks, then the writer's: a run's numbers, 9 included. The output is always long enough (document 02, paper 5).
 unfoldable pub conversion_check : (bytes : List ℕ) → (C source K : ℕ) → Check
-conversion_check bytes C source K = first_fault (road_file_check bytes C ∷ (map_checks (road_inputs bytes C source) ++ levels_checks (two K)))
+conversion_check bytes C source K = first_fault (road_file_check bytes C ∷ (map_checks (road_inputs bytes C source) ++ levels_checks (Two K)))
 
 -- A file, or the line of a refusal (document 01, "Planning file").
 abbrev pub text_or_refusal : Check → (text : List ℕ) → List ℕ
-text_or_refusal Passed text = text
-text_or_refusal (Fault number place) text = refused_text number place
+text_or_refusal (Ok tt) text = text
+text_or_refusal (Err fault) text = refused_text fault
 
 -- What `convert` prints: the planning file of the road file's map, with holds of 0 (document 02, paper 5).
 unfoldable pub conversion_text : (bytes : List ℕ) → (C source K : ℕ) → List ℕ

@@ -8,9 +8,8 @@ ghost use Rattle.plan_text.specs.Files.{plan_file};
 ghost use Rattle.writer.specs.Promise.{write_checks};
 ghost use Rattle.conversion.specs.Conversion.{text_or_refusal, ConversionPromised, ConversionLends, front_inputs, FrontFits};
 
-use dimacs::DimacsAnswer;
-use model::Node;
-use writer::WriteAnswer;
+use dimacs::RoadSize;
+use model::{Fault, Kind, Node};
 
 // A road file tells no holds: each is 0.
 fn write_front(
@@ -46,8 +45,8 @@ fn write_front(
         output,
     );
     match answer {
-        WriteAnswer::Written { length } => length,
-        WriteAnswer::Refused { number, place } => report::write_refusal(output, number, place),
+        Ok(length) => length,
+        Err(fault) => report::write_refusal(output, fault),
     }
 }
 
@@ -67,11 +66,17 @@ fn answer_in(
         starts.new heads.new costs.new output.old output.new result }
 {
     if bytes.len() > 65536 {
-        return report::write_refusal(output, 13, 0);
+        return report::write_refusal(
+            output,
+            Fault {
+                kind: Kind::InputSize,
+                place: 0,
+            },
+        );
     }
     match dimacs::read(bytes, ceiling, starts, heads, costs) {
-        DimacsAnswer::Refused { number, place } => report::write_refusal(output, number, place),
-        DimacsAnswer::Read { nodes, arcs } => write_front(
+        Err(fault) => report::write_refusal(output, fault),
+        Ok(RoadSize { nodes, arcs }) => write_front(
             nodes, arcs, ceiling, source, segments, starts, heads, costs, output,
         ),
     }

@@ -2,7 +2,6 @@
 // output (document 02, papers 1 and 5).
 #![tactic(auto)]
 
-use fields::Field;
 use fields::reading::field_at;
 use model::Node;
 use std::env::FillError;
@@ -10,19 +9,14 @@ use std::io;
 use std::rt::Env;
 
 // An argument of 1 to 7 digits is a field once a line feed stands behind it; one that is missing or longer than the text has length 0.
-fn argument(rt: &impl Env, i: usize) -> Field {
+fn argument(rt: &impl Env, i: usize) -> Option<u32> {
     let mut text = [b'\n'; 9];
     let got = rt.arg(i, &mut text).unwrap_or(0);
-    let found = field_at(&text, 0, b'\n');
-    match found {
-        Field::NoField => Field::NoField,
-        Field::Value { value, taken } => {
-            if taken == got + 1 {
-                Field::Value { value, taken }
-            } else {
-                Field::NoField
-            }
-        }
+    let found = field_at(&text, 0, b'\n')?;
+    if found.taken == got + 1 {
+        Some(found.value)
+    } else {
+        None
     }
 }
 
@@ -63,17 +57,13 @@ fn convert(rt: &(impl Input + Print), ceiling: u32, source: u32, segments: u32) 
 }
 
 fn main(rt: HostRuntime) -> io::Result<()> {
-    let Field::Value { value: ceiling, .. } = argument(&rt, 1) else {
+    let Some(ceiling) = argument(&rt, 1) else {
         return tell_use(&rt);
     };
-    let Field::Value { value: source, .. } = argument(&rt, 2) else {
+    let Some(source) = argument(&rt, 2) else {
         return tell_use(&rt);
     };
-    let Field::Value {
-        value: segments,
-        ..
-    } = argument(&rt, 3)
-    else {
+    let Some(segments) = argument(&rt, 3) else {
         return tell_use(&rt);
     };
     if is_given(&rt, 4) {

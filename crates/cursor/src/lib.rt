@@ -11,18 +11,9 @@ mod lines;
 
 // A line's numbers, those past its last field 0, and the bytes that it takes.
 #[derive(Clone, Copy)]
-pub enum LineNumbers {
-    NoNumbers,
-    NumbersRead {
-        first: u32,
-        second: u32,
-        third: u32,
-        fourth: u32,
-        fifth: u32,
-        sixth: u32,
-        seventh: u32,
-        taken: usize,
-    },
+pub struct LineNumbers {
+    pub numbers: [u32; 7],
+    pub taken: usize,
 }
 
 // The place is the first byte that is still unread.
@@ -39,7 +30,7 @@ pub fn new<'a>(bytes: &'a [u8], at: usize) -> Cursor<'a>
 }
 
 // The line of so many fields, at most seven.
-pub fn numbers_of<'a>(cursor: Cursor<'a>, count: usize) -> LineNumbers
+pub fn numbers_of<'a>(cursor: Cursor<'a>, count: usize) -> Option<LineNumbers>
     requires { (cursor.at ≤ length cursor.bytes.now) × ((1 ≤ count) × (count ≤ 7)) }
     ensures { result ≡ line_numbers count (unread cursor.entry) }
 {
@@ -55,7 +46,7 @@ pub fn left_over<'a>(cursor: Cursor<'a>) -> usize
 }
 
 // Between two lines the passes keep the place as a number. They read by the two functions below, which need no cursor of their callers.
-pub fn numbers_at(bytes: &[u8], at: usize, count: usize) -> LineNumbers
+pub fn numbers_at(bytes: &[u8], at: usize, count: usize) -> Option<LineNumbers>
     requires { (at ≤ length bytes.now) × ((1 ≤ count) × (count ≤ 7)) }
     ensures { result ≡ line_numbers count (drop at bytes.now) }
 {

@@ -6,12 +6,12 @@ use mathlib.Core.Path.{◌≡◌, refl, sym, ◌∙◌, ap, subst}
 use mathlib.Core.List.{List, ◌++◌, map}
 use lib.ListN.{length, get_or, take, drop, length-map, length-append, length-drop}
 use lib.Seq.{take_at, drop_at}
-use Rattle.model.specs.declared.Check.{Check}
-use Rattle.model.specs.declared.Check.TheVariants.{Passed, Fault}
-use Rattle.model.specs.declared.RunAnswer.{RunAnswer}
-use Rattle.model.specs.Answers.{numbers_of, refused_numbers, words_after}
+use Rattle.model.specs.Answers.{Check, RunAnswer, numbers_of, words_after}
+use Rattle.std.specs.Prelude.{Ok, Err}
+use Rattle.model.specs.declared.Fault.{Fault}
 use Rattle.theory.specs.Maps.{none, Map, arcs, Sound}
-use Rattle.theory.specs.Runs.{Inputs, inputs, Levels, heap_buckets, removal_looks}
+use Rattle.theory.specs.Runs.{Inputs, inputs, heap_buckets, removal_looks}
+use Rattle.theory.specs.declared.Levels.{Levels}
 use Rattle.theory.proofs.Demands.{allowed_segmented}
 use Rattle.checks.specs.Checks.{first_fault, Ready}
 use Rattle.runs.specs.Promise.{Lent, lengths_of, Ran}
@@ -25,7 +25,7 @@ use Rattle.destination_checks.specs.Destination.{ReadyTo, checks_to}
 use Rattle.destination.specs.Promise.{LentTo, lent_to, lengths_to, RanTo, PromisedTo}
 
 -- The first words of a list that was filled, and those behind them.
-module _ (filled words : List ℕ) {words' : List ℕ} (count : ℕ) (long : length filled ≡ count) (is : words' ≡ words_after Passed filled words) where
+module _ (filled words : List ℕ) {words' : List ℕ} (count : ℕ) (long : length filled ≡ count) (is : words' ≡ words_after (Ok tt) filled words) where
   first_words_lem : take count words' ≡ filled
   first_words_lem = ap (take count) is ∙ take_at filled (drop (length filled) words) count long
 
@@ -112,9 +112,9 @@ module _ {L : Levels} {I : Inputs} (l : LentTo) (ready : ReadyTo L I (lengths_to
     ready_given = subst (λ (J : Inputs). Ready L J (lengths_of l.run)) (sym given_are) ready_run
 
     -- What the steps leave, once the parents have their old numbers.
-    module _ {r : RunAnswer} {k : Lent} (ran : Ran L given Passed r l.run k) where
-      left : Ran L (reversed_inputs I) Passed r l.run k
-      left = subst (λ (J : Inputs). Ran L J Passed r l.run k) given_are ran
+    module _ {r : RunAnswer} {k : Lent} (ran : Ran L given (Ok tt) r l.run k) where
+      left : Ran L (reversed_inputs I) (Ok tt) r l.run k
+      left = subst (λ (J : Inputs). Ran L J (Ok tt) r l.run k) given_are ran
 
       abbrev parents : List ℕ
       parents = (steps_to L I).search.parents
@@ -135,7 +135,7 @@ module _ {L : Levels} {I : Inputs} (l : LentTo) (ready : ReadyTo L I (lengths_to
             ∙ ap (λ (p : List ℕ). map (λ i. get_or (take (arcs M) arcs') i none) p) (first_words_lem parents l.run.parents M.nodes parents_long left.parents)
             ∙ ap (λ (a : List ℕ). map (λ i. get_or a i none) parents) arcs_are
 
-        parents_left : parents' ++ drop M.nodes k.parents ≡ words_after Passed (old_parents M parents) l.run.parents
+        parents_left : parents' ++ drop M.nodes k.parents ≡ words_after (Ok tt) (old_parents M parents) l.run.parents
         parents_left =
             ap (λ (p : List ℕ). p ++ drop M.nodes k.parents) old_parents_lem
             ∙ ap (λ (p : List ℕ). old_parents M parents ++ p) (words_behind parents l.run.parents M.nodes parents_long left.parents)
@@ -147,7 +147,7 @@ module _ {L : Levels} {I : Inputs} (l : LentTo) (ready : ReadyTo L I (lengths_to
             let rest = drop (length old) l.run.parents in
             omega (arith, ap length parents_left, length-append old rest, length-drop (length old) l.run.parents, demanded.cheapest.parents_length, ready.parents_fit)
 
-        pub renamed_ran : RanTo L I Passed r l
+        pub renamed_ran : RanTo L I (Ok tt) r l
             (lent_to k.distances (parents' ++ drop M.nodes k.parents) k.roster k.work starts' heads' costs' arcs')
         unfolding reversed
         renamed_ran = record {
@@ -165,14 +165,14 @@ module _ {L : Levels} {I : Inputs} (l : LentTo) (ready : ReadyTo L I (lengths_to
 
 -- The checks have come to `check`, which is that all pass.
 pub passed_ran_to : {L : Levels} {I : Inputs} {l l' : LentTo} {check : Check} {r : RunAnswer} → check ≡ first_fault (checks_to L I (lengths_to l))
-    → check ≡ Passed → RanTo L I Passed r l l' → PromisedTo L I r l l'
+    → check ≡ Ok tt → RanTo L I (Ok tt) r l l' → PromisedTo L I r l l'
 passed_ran_to is passed ran = rw (sym is ∙ passed) ran
 
 -- A refusal leaves every list as it was.
-pub refused_ran_to : {L : Levels} {I : Inputs} {check : Check} {number place : ℕ} {r : RunAnswer} {l : LentTo} → check ≡ Fault number place
-    → numbers_of r ≡ refused_numbers number place → RanTo L I check r l l
+pub refused_ran_to : {L : Levels} {I : Inputs} {check : Check} {fault : Fault} {r : RunAnswer} {l : LentTo} → check ≡ Err fault
+    → r ≡ Err fault → RanTo L I check r l l
 refused_ran_to e q = rw e (record {
-  numbers = q;
+  numbers = ap numbers_of q;
   distances = refl;
   parents = refl;
   roster = refl;

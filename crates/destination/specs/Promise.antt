@@ -1,12 +1,11 @@
 -- What the runs to a destination promise for every input (document 02, paper 7). The destination is paper 7's charger.
-use Rattle.std.specs.Prelude.{ℕ, ◌≡◌, List, length, replicate}
-use Rattle.model.specs.declared.Check.{Check}
-use Rattle.model.specs.declared.Check.TheVariants.{Passed, Fault}
-use Rattle.model.specs.declared.RunAnswer.{RunAnswer}
-use Rattle.model.specs.Answers.{numbers_of, words_after}
+use Rattle.std.specs.Prelude.{ℕ, ◌≡◌, List, length, replicate, Ok, Err}
+use Rattle.model.specs.Answers.{Check, RunAnswer, numbers_of, words_after}
 use Rattle.theory.specs.Maps.{Map}
 use Rattle.theory.specs.Heap.{Heap}
-use Rattle.theory.specs.Runs.{Inputs, Levels, one, two, heap_buckets, removal_looks, work_words}
+use Rattle.theory.specs.Runs.{Inputs, heap_buckets, removal_looks, work_words}
+use Rattle.theory.specs.declared.Levels.{Levels}
+use Rattle.theory.specs.declared.Levels.TheVariants.{One, Two}
 use Rattle.checks.specs.Checks.{first_fault}
 use Rattle.runs.specs.Promise.{Lent, lent, lengths_of, run_numbers}
 use Rattle.reversal.specs.Reversed.{reversed, old_numbers, old_parents, steps_to}
@@ -34,8 +33,8 @@ lengths_to l =
 
 -- Demands 2 and 3 in the map as it was, of an accepted run with B buckets and at most L looks to a removal (document 02, paper 7).
 abbrev pub RunDemandedTo : Check → (M : Map) → (destination B L : ℕ) → (h : Heap) → Type 0
-RunDemandedTo Passed M destination B L h = DemandedTo M destination B L h
-RunDemandedTo (Fault number place) M destination B L h = Unit {0}
+RunDemandedTo (Ok tt) M destination B L h = DemandedTo M destination B L h
+RunDemandedTo (Err fault) M destination B L h = Unit {0}
 
 -- A run to a destination, which is the source of the inputs, whose checks in order come to `check`: the answer, what each lent list holds
 -- afterwards, and the demands. Distances, roster, work and numbers are those of the run of the reversed map, parents the same with old arc
@@ -58,8 +57,8 @@ PromisedTo L I r l l' = RanTo L I (first_fault (checks_to L I (lengths_to l))) r
 
 -- The one-level run to a destination: checks 1 to 6, 20, 7, 8 and 10 in order (document 02, paper 7).
 abbrev pub OneLevelPromisedTo : Inputs → RunAnswer → (l l' : LentTo) → Type 0
-OneLevelPromisedTo = PromisedTo one
+OneLevelPromisedTo = PromisedTo One
 
 -- The two-level run to a destination: checks 1 to 6, 20, 7 to 10 in order (document 02, paper 7).
 abbrev pub TwoLevelPromisedTo : (K : ℕ) → Inputs → RunAnswer → (l l' : LentTo) → Type 0
-TwoLevelPromisedTo K = PromisedTo (two K)
+TwoLevelPromisedTo K = PromisedTo (Two K)

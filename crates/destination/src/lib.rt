@@ -2,16 +2,18 @@
 // paper 7).
 #![tactic(auto)]
 
-ghost use Rattle.model.specs.declared.Check.TheVariants.{Passed};
-ghost use Rattle.theory.specs.Runs.{one, two, inputs};
+ghost use Rattle.std.specs.Prelude.{Ok};
+ghost use Rattle.theory.specs.Runs.{inputs};
 ghost use Rattle.destination_checks.specs.Destination.{ReadyTo};
-ghost use Rattle.destination.specs.Promise.{RanTo, OneLevelPromisedTo, TwoLevelPromisedTo, lent_to, lengths_to};
+ghost use Rattle.destination.specs.Promise.{RanTo, PromisedTo, lent_to, lengths_to};
 
-use model::{Check, Node, RunAnswer};
+use model::{Fault, Node, Run};
+use theory::Levels;
 
-// The one-level run to a destination, of inputs and lists that have passed the checks: the reversed map is built and run on, and its arcs in
-// the parents get their old numbers.
-fn one_level_back(
+// The run to a destination, of inputs and lists that have passed the checks: the reversed map is built and run on, and its arcs in the parents
+// get their old numbers.
+fn run_back(
+    levels: Levels,
     n: u32,
     ceiling: u32,
     destination: Node,
@@ -27,11 +29,11 @@ fn one_level_back(
     reversed_heads: &mut [u32],
     reversed_costs: &mut [u32],
     old_arcs: &mut [u32],
-) -> RunAnswer
-    requires { ReadyTo one (inputs n ceiling destination.0 starts.now heads.now costs.now holds.now)
+) -> Run
+    requires { ReadyTo levels (inputs n ceiling destination.0 starts.now heads.now costs.now holds.now)
         (lengths_to (lent_to distances.old parents.old roster.old work.old reversed_starts.old reversed_heads.old reversed_costs.old
         old_arcs.old)) }
-    ensures { RanTo one (inputs n ceiling destination.0 starts.now heads.now costs.now holds.now) Passed result
+    ensures { RanTo levels (inputs n ceiling destination.0 starts.now heads.now costs.now holds.now) (Ok tt) (Ok result)
         (lent_to distances.old parents.old roster.old work.old reversed_starts.old reversed_heads.old
         reversed_costs.old old_arcs.old)
         (lent_to distances.new parents.new roster.new work.new reversed_starts.new reversed_heads.new
@@ -49,7 +51,8 @@ fn one_level_back(
         reversed_costs,
         old_arcs,
     );
-    let answer = runs::one_level_steps(
+    let run = runs::run_steps(
+        levels,
         n,
         ceiling,
         destination,
@@ -63,70 +66,11 @@ fn one_level_back(
         work,
     );
     reversing::rename(&mut parents[..nodes], &old_arcs[..arcs]);
-    answer
+    run
 }
 
-// The two-level run to a destination, of inputs and lists that have passed the checks: the reversed map is built and run on, and its arcs in
-// the parents get their old numbers.
-fn two_level_back(
-    n: u32,
-    ceiling: u32,
-    destination: Node,
-    segments: u32,
-    starts: &[u32],
-    heads: &[u32],
-    costs: &[u32],
-    holds: &[u32],
-    distances: &mut [u32],
-    parents: &mut [u32],
-    roster: &mut [u32],
-    work: &mut [u32],
-    reversed_starts: &mut [u32],
-    reversed_heads: &mut [u32],
-    reversed_costs: &mut [u32],
-    old_arcs: &mut [u32],
-) -> RunAnswer
-    requires { ReadyTo (two segments) (inputs n ceiling destination.0 starts.now heads.now costs.now holds.now)
-        (lengths_to (lent_to distances.old parents.old roster.old work.old reversed_starts.old reversed_heads.old reversed_costs.old
-        old_arcs.old)) }
-    ensures { RanTo (two segments) (inputs n ceiling destination.0 starts.now heads.now costs.now holds.now) Passed result
-        (lent_to distances.old parents.old roster.old work.old reversed_starts.old reversed_heads.old
-        reversed_costs.old old_arcs.old)
-        (lent_to distances.new parents.new roster.new work.new reversed_starts.new reversed_heads.new
-        reversed_costs.new old_arcs.new) }
-{
-    let nodes = n as usize;
-    let arcs = heads.len();
-    reversing::reverse(
-        n,
-        starts,
-        heads,
-        costs,
-        reversed_starts,
-        reversed_heads,
-        reversed_costs,
-        old_arcs,
-    );
-    let answer = runs::two_level_steps(
-        n,
-        ceiling,
-        destination,
-        segments,
-        &reversed_starts[..nodes + 1],
-        &reversed_heads[..arcs],
-        &reversed_costs[..arcs],
-        holds,
-        distances,
-        parents,
-        roster,
-        work,
-    );
-    reversing::rename(&mut parents[..nodes], &old_arcs[..arcs]);
-    answer
-}
-
-// The one-level run to a destination.
-pub fn one_level_to(
+pub fn run_to(
+    levels: Levels,
     n: u32,
     ceiling: u32,
     destination: Node,
@@ -142,14 +86,15 @@ pub fn one_level_to(
     reversed_heads: &mut [u32],
     reversed_costs: &mut [u32],
     old_arcs: &mut [u32],
-) -> RunAnswer
-    ensures { OneLevelPromisedTo (inputs n ceiling destination.0 starts.now heads.now costs.now holds.now) result
+) -> Result<Run, Fault>
+    ensures { PromisedTo levels (inputs n ceiling destination.0 starts.now heads.now costs.now holds.now) result
         (lent_to distances.old parents.old roster.old work.old reversed_starts.old reversed_heads.old
         reversed_costs.old old_arcs.old)
         (lent_to distances.new parents.new roster.new work.new reversed_starts.new reversed_heads.new
         reversed_costs.new old_arcs.new) }
 {
-    let check = destination_checks::one_level_check_to(
+    destination_checks::run_check_to(
+        levels,
         n,
         ceiling,
         destination,
@@ -165,11 +110,9 @@ pub fn one_level_to(
         reversed_heads.len(),
         reversed_costs.len(),
         old_arcs.len(),
-    );
-    if let Check::Fault { number, place } = check {
-        return model::refused_run(number, place);
-    }
-    one_level_back(
+    )?;
+    Ok(run_back(
+        levels,
         n,
         ceiling,
         destination,
@@ -185,71 +128,5 @@ pub fn one_level_to(
         reversed_heads,
         reversed_costs,
         old_arcs,
-    )
-}
-
-// The two-level run to a destination.
-pub fn two_level_to(
-    n: u32,
-    ceiling: u32,
-    destination: Node,
-    segments: u32,
-    starts: &[u32],
-    heads: &[u32],
-    costs: &[u32],
-    holds: &[u32],
-    distances: &mut [u32],
-    parents: &mut [u32],
-    roster: &mut [u32],
-    work: &mut [u32],
-    reversed_starts: &mut [u32],
-    reversed_heads: &mut [u32],
-    reversed_costs: &mut [u32],
-    old_arcs: &mut [u32],
-) -> RunAnswer
-    ensures { TwoLevelPromisedTo segments (inputs n ceiling destination.0 starts.now heads.now costs.now holds.now) result
-        (lent_to distances.old parents.old roster.old work.old reversed_starts.old reversed_heads.old
-        reversed_costs.old old_arcs.old)
-        (lent_to distances.new parents.new roster.new work.new reversed_starts.new reversed_heads.new
-        reversed_costs.new old_arcs.new) }
-{
-    let check = destination_checks::two_level_check_to(
-        n,
-        ceiling,
-        destination,
-        segments,
-        starts,
-        heads,
-        costs,
-        holds,
-        distances.len(),
-        parents.len(),
-        roster.len(),
-        work.len(),
-        reversed_starts.len(),
-        reversed_heads.len(),
-        reversed_costs.len(),
-        old_arcs.len(),
-    );
-    if let Check::Fault { number, place } = check {
-        return model::refused_run(number, place);
-    }
-    two_level_back(
-        n,
-        ceiling,
-        destination,
-        segments,
-        starts,
-        heads,
-        costs,
-        holds,
-        distances,
-        parents,
-        roster,
-        work,
-        reversed_starts,
-        reversed_heads,
-        reversed_costs,
-        old_arcs,
-    )
+    ))
 }

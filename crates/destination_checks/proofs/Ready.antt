@@ -3,16 +3,18 @@ use Prim.Native.Nat.{ℕ, ◌+◌, ◌≤◌}
 use native.Mathlib.Omega.{arith}
 use mathlib.Core.Path.{◌≡◌}
 use mathlib.Core.List.{List}
-use Rattle.model.specs.declared.Check.TheVariants.{Passed, Fault}
+use Rattle.std.specs.Prelude.{Ok, Err}
+use Rattle.model.specs.Answers.{number_of}
+use Rattle.model.specs.declared.Fault.{Fault}
 use Rattle.theory.specs.Maps.{arcs, head_of}
-use Rattle.theory.specs.Runs.{Inputs, Levels, Allowed, work_words}
-use Rattle.check_sums.specs.Sums.{sums_check}
+use Rattle.theory.specs.Runs.{Inputs, Allowed, work_words}
+use Rattle.theory.specs.declared.Levels.{Levels}
 use Rattle.check_sums.proofs.Sums.{passed_sums, sums_pass}
 use Rattle.checks.specs.Checks.{first_fault, LentList, lent_checks}
 use Rattle.checks.proofs.Order.{AllPass, none, more}
 use Rattle.checks.proofs.Sizes.{passed_lent, lent_passes}
 use Rattle.checks.proofs.Valid.{Ordered, passed_call, call_passed}
-use Rattle.checks.proofs.Numbered.{least, call_number}
+use Rattle.checks.proofs.Numbered.{kind_number}
 use Rattle.reversal.specs.Reversed.{ValidTo}
 use Rattle.destination_checks.specs.Destination.{head_sums_check, SummableTo, LengthsTo, lists_to, checks_to, ReadyTo}
 
@@ -26,7 +28,7 @@ module _ {I : Inputs} where
     holds_most = o.holds_most;
   }
 
-  summed_valid : Ordered I → head_sums_check I ≡ Passed → ValidTo I.map I.ceiling I.source
+  summed_valid : Ordered I → head_sums_check I ≡ Ok tt → ValidTo I.map I.ceiling I.source
   summed_valid o e = record {
     sound = o.sound;
     low_ceiling = o.low_ceiling;
@@ -42,7 +44,7 @@ module _ {I : Inputs} where
     holds_most = λ i l. v.holds_most i (omega (arith, v.sound.holds_length));
   }
 
-  valid_summed : ValidTo I.map I.ceiling I.source → head_sums_check I ≡ Passed
+  valid_summed : ValidTo I.map I.ceiling I.source → head_sums_check I ≡ Ok tt
   valid_summed v =
       sums_pass I.ceiling (head_of I.map) I.map.costs I.map.holds
       (λ a l. v.sums_most a (omega (arith, v.sound.costs_length)))
@@ -87,13 +89,13 @@ module _ (L : Levels) (I : Inputs) (lengths : LengthsTo) where
       (more (lent_passes 7 lengths.arcs m r.arcs_fit) none)))))))
 
 module _ {L : Levels} {I : Inputs} {lengths : LengthsTo} where
-  pub passed_ready_to : first_fault (checks_to L I lengths) ≡ Passed → ReadyTo L I lengths
+  pub passed_ready_to : first_fault (checks_to L I lengths) ≡ Ok tt → ReadyTo L I lengths
   unfolding checks_to
   passed_ready_to e =
       let p = passed_call L I (head_sums_check I) (lists L I lengths) e in
       ready L I lengths (summed_valid p.ordered p.summed) p.allowed p.lent
 
-  pub ready_passed_to : ReadyTo L I lengths → first_fault (checks_to L I lengths) ≡ Passed
+  pub ready_passed_to : ReadyTo L I lengths → first_fault (checks_to L I lengths) ≡ Ok tt
   unfolding checks_to
   ready_passed_to r =
       call_passed L I (head_sums_check I) (lists L I lengths)
@@ -105,7 +107,6 @@ module _ {L : Levels} {I : Inputs} {lengths : LengthsTo} where
       })
 
 -- So it returns 0 exactly where all its checks pass.
-pub fault_number_to : (L : Levels) (I : Inputs) (lengths : LengthsTo) (number place : ℕ)
-    → first_fault (checks_to L I lengths) ≡ Fault number place → 1 ≤ number
-unfolding sums_check checks_to
-fault_number_to L I lengths number place e = call_number L I (least 8 _ (omega arith) _ _) (lists L I lengths) number place e
+pub fault_number_to : (L : Levels) (I : Inputs) (lengths : LengthsTo) (fault : Fault) → first_fault (checks_to L I lengths) ≡ Err fault
+    → 1 ≤ number_of fault.kind
+fault_number_to L I lengths fault e = kind_number fault.kind

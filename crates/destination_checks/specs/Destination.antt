@@ -1,8 +1,9 @@
 -- The order in which a run to a destination makes its checks, and what they show (document 02, paper 7). The destination is paper 7's charger.
 use Rattle.std.specs.Prelude.{ℕ, ◌+◌, ◌≤◌, ◌<◌, ◌≡◌, List, [], ◌∷◌, ◌++◌, length, get_or}
-use Rattle.model.specs.declared.Check.{Check}
+use Rattle.model.specs.Answers.{Check}
 use Rattle.theory.specs.Maps.{arcs, head_of}
-use Rattle.theory.specs.Runs.{Inputs, Levels, Allowed, work_words}
+use Rattle.theory.specs.Runs.{Inputs, Allowed, work_words}
+use Rattle.theory.specs.declared.Levels.{Levels}
 use Rattle.check_lists.specs.Lists.{NoneAbove}
 use Rattle.check_sums.specs.Sums.{sums_check}
 use Rattle.checks.specs.Checks.{LentList, map_lists, Lengths, lengths_for, run_lists, call_checks}

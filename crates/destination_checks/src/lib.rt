@@ -1,47 +1,45 @@
 // The checks of a run to a destination, in their order (document 02, paper 7). The destination is paper 7's charger.
 #![tactic(auto)]
 
-ghost use Rattle.std.specs.Prelude.{◌≡◌, ℕ, get_or};
-ghost use Rattle.theory.specs.Runs.{inputs, one, two};
+ghost use Rattle.std.specs.Prelude.{◌≡◌, get_or};
+ghost use Rattle.theory.specs.Runs.{inputs};
 ghost use Rattle.check_sums.specs.Sums.{sums_check};
 ghost use Rattle.checks.specs.Checks.{first_fault, lent_checks, summed_checks};
 ghost use Rattle.destination_checks.specs.Destination.{head_sums_check, SummableTo, reversed_lists, checks_to, lengths_to_for};
 
 use check_lists::limits::any_above;
 use check_sums::greatest;
-use checks::first_of;
-use model::{Check, Node};
+use model::{Fault, Kind, Node};
+use theory::Levels;
 
 // One pass over the costs settles a map in which no cost is above what the greatest hold leaves; only in others are the heads looked up.
-fn head_sums_check(ceiling: u32, heads: &[u32], costs: &[u32], holds: &[u32]) -> Check
+fn head_sums_check(ceiling: u32, heads: &[u32], costs: &[u32], holds: &[u32]) -> Result<(), Fault>
     requires { SummableTo ceiling heads.now costs.now holds.now }
     ensures { result ≡ sums_check ceiling (λ a. get_or heads.now a 0) costs.now holds.now }
 {
     if any_above(ceiling - greatest(holds), costs) {
         least_head_sum(ceiling, heads, costs, holds)
     } else {
-        Check::Passed
+        Ok(())
     }
 }
 
 // No sum is formed, so none can wrap: a cost is held against what a hold leaves of the ceiling.
-fn least_head_sum(ceiling: u32, heads: &[u32], costs: &[u32], holds: &[u32]) -> Check
+fn least_head_sum(ceiling: u32, heads: &[u32], costs: &[u32], holds: &[u32]) -> Result<(), Fault>
     requires { SummableTo ceiling heads.now costs.now holds.now }
     ensures { result ≡ sums_check ceiling (λ a. get_or heads.now a 0) costs.now holds.now }
 {
-    let mut arc = 0;
-    while arc < costs.len() {
+    for arc in 0..costs.len() {
         let head = heads[arc] as usize;
         let rest = ceiling - holds[head];
         if costs[arc] > rest {
-            return Check::Fault {
-                number: 8,
+            return Err(Fault {
+                kind: Kind::Cost,
                 place: arc,
-            };
+            });
         }
-        arc += 1;
     }
-    Check::Passed
+    Ok(())
 }
 
 // As `checks::map_check`, with the holds of heads: sums are looked at only once the lists have passed, since a head is read as a node.
@@ -53,18 +51,16 @@ fn map_check(
     heads: &[u32],
     costs: &[u32],
     holds: &[u32],
-) -> Check
+) -> Result<(), Fault>
     ensures { result ≡ first_fault (summed_checks (inputs n ceiling destination.0 starts.now heads.now costs.now
         holds.now) (head_sums_check (inputs n ceiling destination.0 starts.now heads.now
         costs.now holds.now))) }
 {
-    let lists = checks::lists_check(n, ceiling, destination, starts, heads, costs, holds);
-    let Check::Passed = lists else {
-        return lists;
-    };
+    checks::lists_check(n, ceiling, destination, starts, heads, costs, holds)?;
     head_sums_check(ceiling, heads, costs, holds)
 }
 
+#[tactic(auto, unfolding(checks::specs::Checks::first_fault, checks::specs::Checks::lent_checks))]
 fn reversed_lists_check(
     n: u32,
     arcs: usize,
@@ -72,18 +68,17 @@ fn reversed_lists_check(
     heads: usize,
     costs: usize,
     old_arcs: usize,
-) -> Check
+) -> Result<(), Fault>
     ensures { result ≡ first_fault (lent_checks 4 (reversed_lists n arcs starts heads costs old_arcs)) }
 {
-    let found = first_of(
-        check_numbers::lent_check(4, starts, n as usize + 1),
-        check_numbers::lent_check(5, heads, arcs),
-    );
-    let found = first_of(found, check_numbers::lent_check(6, costs, arcs));
-    first_of(found, check_numbers::lent_check(7, old_arcs, arcs))
+    check_numbers::lent_check(4, starts, n as usize + 1)?;
+    check_numbers::lent_check(5, heads, arcs)?;
+    check_numbers::lent_check(6, costs, arcs)?;
+    check_numbers::lent_check(7, old_arcs, arcs)
 }
 
-pub fn one_level_check_to(
+pub fn run_check_to(
+    levels: Levels,
     n: u32,
     ceiling: u32,
     destination: Node,
@@ -99,64 +94,20 @@ pub fn one_level_check_to(
     reversed_heads: usize,
     reversed_costs: usize,
     old_arcs: usize,
-) -> Check
-    ensures { result ≡ first_fault (checks_to one (inputs n ceiling destination.0 starts.now heads.now costs.now
+) -> Result<(), Fault>
+    ensures { result ≡ first_fault (checks_to levels (inputs n ceiling destination.0 starts.now heads.now costs.now
         holds.now) (lengths_to_for distances parents roster work reversed_starts reversed_heads reversed_costs old_arcs)) }
 {
-    let arcs = heads.len();
-    let needed = 4 * n as usize + 64;
-    let map = map_check(n, ceiling, destination, starts, heads, costs, holds);
-    let run = checks::run_lists_check(n, distances, parents, roster, work, needed);
-    let reversed = reversed_lists_check(
+    map_check(n, ceiling, destination, starts, heads, costs, holds)?;
+    checks::levels_check(levels)?;
+    let needed = checks::work_words(levels, n);
+    checks::run_lists_check(n, distances, parents, roster, work, needed)?;
+    reversed_lists_check(
         n,
-        arcs,
+        heads.len(),
         reversed_starts,
         reversed_heads,
         reversed_costs,
         old_arcs,
-    );
-    first_of(map, first_of(run, reversed))
-}
-
-pub fn two_level_check_to(
-    n: u32,
-    ceiling: u32,
-    destination: Node,
-    segments: u32,
-    starts: &[u32],
-    heads: &[u32],
-    costs: &[u32],
-    holds: &[u32],
-    distances: usize,
-    parents: usize,
-    roster: usize,
-    work: usize,
-    reversed_starts: usize,
-    reversed_heads: usize,
-    reversed_costs: usize,
-    old_arcs: usize,
-) -> Check
-    ensures { result ≡ first_fault (checks_to (two segments) (inputs n ceiling destination.0 starts.now heads.now
-        costs.now holds.now)
-        (lengths_to_for distances parents roster work reversed_starts reversed_heads reversed_costs old_arcs)) }
-{
-    let arcs = heads.len();
-    let needed = 4 * n as usize + 384;
-    let run = checks::run_lists_check(n, distances, parents, roster, work, needed);
-    let reversed = reversed_lists_check(
-        n,
-        arcs,
-        reversed_starts,
-        reversed_heads,
-        reversed_costs,
-        old_arcs,
-    );
-    let rest = first_of(
-        check_numbers::segments_check(segments),
-        first_of(run, reversed),
-    );
-    first_of(
-        map_check(n, ceiling, destination, starts, heads, costs, holds),
-        rest,
     )
 }

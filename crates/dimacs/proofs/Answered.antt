@@ -4,14 +4,14 @@ use native.Mathlib.Omega.{arith}
 use mathlib.Core.Path.{◌≡◌, refl, sym, ◌∙◌}
 use mathlib.Core.List.{List, [], ◌∷◌, ◌++◌}
 use lib.ListN.{length, drop}
-use Rattle.model.specs.declared.Check.TheVariants.{Passed, Fault}
+use Rattle.std.specs.Prelude.{Ok, Err}
+use Rattle.model.specs.declared.Fault.{Fault}
 use Rattle.checks.specs.Checks.{first_fault, lent_checks}
 use Rattle.checks.proofs.Order.{AllPass, none, more, passed_all}
 use Rattle.checks.proofs.Sizes.{passed_heads, passed_lent}
 use Rattle.grouping.specs.Filled.{Filled}
 use Rattle.dimacs_lines.specs.Lines.{road_lines}
 use Rattle.dimacs_checks.specs.Checking.{unheaded, headed, road_heading, problem_checks, lines_check, road_check}
-use Rattle.dimacs.specs.declared.DimacsAnswer.TheVariants.{Read, Refused}
 use Rattle.dimacs.specs.Promise.{DimacsPromised}
 use Rattle.dimacs.specs.Filling.{arcs_at, RoadFillable}
 use Rattle.dimacs.proofs.Passing.{lines_shown}
@@ -19,12 +19,12 @@ use Rattle.dimacs.proofs.Passing.{lines_shown}
 -- ---- a refusal
 
 module _ (bytes : List ℕ) (C : ℕ) (starts heads costs : List ℕ) where
-  pub refused_promised : {number place : ℕ} → road_check bytes C (length starts) (length heads) (length costs) ≡ Fault number place
-      → DimacsPromised bytes C starts heads costs starts heads costs (Refused number place)
-  refused_promised e = rw e (record { read = refl; numbers = refl; starts_after = refl; heads_after = refl; costs_after = refl })
+  pub refused_promised : {fault : Fault} → road_check bytes C (length starts) (length heads) (length costs) ≡ Err fault
+      → DimacsPromised bytes C starts heads costs starts heads costs (Err fault)
+  refused_promised e = rw e (record { answered = refl; starts_after = refl; heads_after = refl; costs_after = refl })
 
-  pub no_problem_promised : {number place : ℕ} → unheaded number place ≡ road_heading bytes
-      → DimacsPromised bytes C starts heads costs starts heads costs (Refused number place)
+  pub no_problem_promised : {fault : Fault} → unheaded fault ≡ road_heading bytes
+      → DimacsPromised bytes C starts heads costs starts heads costs (Err fault)
   unfolding road_check
   no_problem_promised e = refused_promised (rw (sym e))
 
@@ -37,7 +37,7 @@ module _ (bytes : List ℕ) (C : ℕ) (starts heads costs : List ℕ) {n m line 
   unfolding road_check
   road_check_is = rw (sym e)
 
-  pub fillable : at ≤ length bytes → road_check bytes C (length starts) (length heads) (length costs) ≡ Passed
+  pub fillable : at ≤ length bytes → road_check bytes C (length starts) (length heads) (length costs) ≡ Ok tt
       → RoadFillable n bytes at starts heads costs
   unfolding problem_checks lent_checks
   fillable within p = go (passed_all _ (sym road_check_is ∙ p))
@@ -53,14 +53,13 @@ module _ (bytes : List ℕ) (C : ℕ) (starts heads costs : List ℕ) {n m line 
             costs_fit = omega (arith, shown.count, passed_lent 2 (length costs) m third);
           }
 
-  pub read_promised : {starts' heads' costs' : List ℕ} → road_check bytes C (length starts) (length heads) (length costs) ≡ Passed
+  pub read_promised : {starts' heads' costs' : List ℕ} → road_check bytes C (length starts) (length heads) (length costs) ≡ Ok tt
       → Filled n (arcs_at bytes at) starts heads costs starts' heads' costs'
-      → DimacsPromised bytes C starts heads costs starts' heads' costs' (Read n m)
+      → DimacsPromised bytes C starts heads costs starts' heads' costs' (Ok (record { nodes = n; arcs = m }))
   read_promised p f =
       rw p
       (record {
-        read = refl;
-        numbers = rw (sym e);
+        answered = rw (sym e);
         starts_after = rw (sym e) f.starts_filled;
         heads_after = rw (sym e) f.heads_filled;
         costs_after = rw (sym e) f.costs_filled;

@@ -1,8 +1,7 @@
 -- Road files with what the reader gives back for them: a table of our own for the rules of document 02, paper 1.
-use Rattle.std.specs.Prelude.{ℕ, List, [], ◌∷◌}
+use Rattle.std.specs.Prelude.{ℕ, List, [], ◌∷◌, Ok, Err}
 use Prim.Native.String.{String}
-use Rattle.model.specs.declared.Check.{Check}
-use Rattle.model.specs.declared.Check.TheVariants.{Passed, Fault}
+use Rattle.model.specs.Answers.{Check, number_of}
 use Rattle.fields.specs.Texts.{bytes_of}
 use Rattle.dimacs_checks.specs.Checking.{road_check}
 use Rattle.dimacs.specs.Roads.{road, road_starts, road_heads, road_costs}
@@ -29,8 +28,8 @@ map_told bytes = accepted (road bytes).nodes (road bytes).count (road_starts byt
 
 -- What the definitions tell of a file whose checks come to `check` (document 02, paper 1).
 abbrev pub told_by : Check → List ℕ → RoadTold
-told_by Passed bytes = map_told bytes
-told_by (Fault number place) bytes = refused number place
+told_by (Ok tt) bytes = map_told bytes
+told_by (Err fault) bytes = refused (number_of fault.kind) fault.place
 
 -- What the definitions give for a row, where 6 starts, 7 heads and 7 costs are lent (document 02, paper 1).
 unfoldable pub given_for_road : RoadRow → RoadTold

@@ -1,18 +1,24 @@
 -- The map of a road file (document 02, paper 1).
-use Rattle.std.specs.Prelude.{ℕ, ◌-◌, List, [], ◌∷◌, replicate}
+use Rattle.std.specs.Prelude.{ℕ, ◌-◌, List, [], ◌∷◌, Option, Some, None, replicate}
 use Rattle.theory.specs.Runs.{Inputs, inputs}
 use Rattle.grouping.specs.Arcs.{PlanArc, starts_of, heads_of, costs_of}
 use Rattle.dimacs_lines.specs.declared.RoadLine.{RoadLine}
-use Rattle.dimacs_lines.specs.declared.RoadLine.TheVariants.{IllFormed, Comment, Problem, RoadArc}
+use Rattle.dimacs_lines.specs.declared.Told.{Told}
+use Rattle.dimacs_lines.specs.declared.Told.TheVariants.{Comment, Problem, RoadArc}
 use Rattle.dimacs_checks.specs.Checking.{Heading, unheaded, headed, road_heading}
 
--- The arcs of lines, in the order of the file, which counts nodes from 1 where a map counts from 0 (document 02, paper 1).
-unfoldable pub line_arcs : List RoadLine → List PlanArc
+-- The arc that a line tells, if any, before those behind it; a road file counts nodes from 1 where a map counts from 0 (document 02, paper
+-- 1).
+abbrev pub arc_and_behind : Told → (behind : List PlanArc) → List PlanArc
+arc_and_behind Comment behind = behind
+arc_and_behind (Problem nodes arcs) behind = behind
+arc_and_behind (RoadArc tail head cost) behind = record { tail = tail - 1; head = head - 1; cost = cost } ∷ behind
+
+-- The arcs of lines, in the order of the file (document 02, paper 1).
+unfoldable pub line_arcs : List (Option RoadLine) → List PlanArc
 line_arcs [] = []
-line_arcs (IllFormed ∷ lines) = line_arcs lines
-line_arcs (Comment taken ∷ lines) = line_arcs lines
-line_arcs (Problem nodes arcs taken ∷ lines) = line_arcs lines
-line_arcs (RoadArc tail head cost taken ∷ lines) = record { tail = tail - 1; head = head - 1; cost = cost } ∷ line_arcs lines
+line_arcs (None ∷ lines) = line_arcs lines
+line_arcs (Some line ∷ lines) = arc_and_behind line.told (line_arcs lines)
 
 -- What a road file tells: n and m, and its arcs (document 02, paper 1).
 pub record Road : Type 0 where
@@ -22,7 +28,7 @@ pub record Road : Type 0 where
 
 -- The numbers of the `p` line, and the arcs behind it; a file without one is refused, and its numbers count as 0 (document 02, paper 1).
 abbrev pub road_of : Heading → Road
-road_of (unheaded number place) = record { nodes = 0; count = 0; arcs = [] }
+road_of (unheaded fault) = record { nodes = 0; count = 0; arcs = [] }
 road_of (headed nodes count before lines) = record { nodes = nodes; count = count; arcs = line_arcs lines }
 
 -- What the bytes of a road file tell (document 02, paper 1).

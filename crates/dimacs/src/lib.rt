@@ -4,15 +4,15 @@
 ghost use Rattle.dimacs.specs.Promise.{DimacsPromised};
 
 use dimacs_checks::ProblemLine;
-use model::Check;
+use model::Fault;
 
 mod filling;
 
-// n and m of the `p` line, or a refusal's number and place.
+// n and m of the `p` line.
 #[derive(Clone, Copy)]
-pub enum DimacsAnswer {
-    Read { nodes: u32, arcs: u32 },
-    Refused { number: u32, place: usize },
+pub struct RoadSize {
+    pub nodes: u32,
+    pub arcs: u32,
 }
 
 // Nothing is written before every check has passed.
@@ -22,35 +22,27 @@ pub fn read(
     starts: &mut [u32],
     heads: &mut [u32],
     costs: &mut [u32],
-) -> DimacsAnswer
+) -> Result<RoadSize, Fault>
     ensures { DimacsPromised bytes.now ceiling starts.old heads.old costs.old
         starts.new heads.new costs.new result }
 {
-    let problem = dimacs_checks::find_problem(bytes);
-    match problem {
-        ProblemLine::NoProblem { number, place } => DimacsAnswer::Refused { number, place },
-        ProblemLine::ProblemAt {
-            nodes,
-            arcs,
-            at,
-            line,
-        } => {
-            let check = dimacs_checks::problem_check(
-                bytes,
-                at,
-                line,
-                nodes,
-                arcs,
-                ceiling,
-                starts.len(),
-                heads.len(),
-                costs.len(),
-            );
-            if let Check::Fault { number, place } = check {
-                return DimacsAnswer::Refused { number, place };
-            }
-            filling::fill(bytes, at, nodes, starts, heads, costs);
-            DimacsAnswer::Read { nodes, arcs }
-        }
-    }
+    let ProblemLine {
+        nodes,
+        arcs,
+        at,
+        line,
+    } = dimacs_checks::find_problem(bytes)?;
+    dimacs_checks::problem_check(
+        bytes,
+        at,
+        line,
+        nodes,
+        arcs,
+        ceiling,
+        starts.len(),
+        heads.len(),
+        costs.len(),
+    )?;
+    filling::fill(bytes, at, nodes, starts, heads, costs);
+    Ok(RoadSize { nodes, arcs })
 }

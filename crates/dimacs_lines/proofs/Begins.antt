@@ -1,64 +1,32 @@
--- The bytes compared with a prefix, one letter at a time. Assumes nothing.
-use Prim.Native.Nat.{ℕ, suc, ◌+◌, ◌≤◌, ◌<◌}
-use native.Mathlib.Omega.{arith}
-use native.Mathlib.Numerals.{add-one}
+-- The bytes from a place on, compared with a prefix by the library. Assumes nothing.
+use Prim.Native.Nat.{ℕ, ◌-◌}
 use mathlib.Core.Path.{◌≡◌, refl, sym, ◌∙◌}
 use mathlib.Core.Bool.{Bool, true, false}
-use mathlib.Core.List.{List}
-use lib.ListN.{length, get_or, drop, length-drop, drop_of_length-le}
-use lib.Seq.{drop-cons}
-use borrow.Author.Tests.{eq-eqb, ne_eqb}
+use mathlib.Core.List.{List, [], ◌∷◌}
+use lib.Dec.{eqb}
+use lib.ListN.{length, take, drop, length-drop}
+use lib.Seq.{take-length}
+use borrow.Author.Tests.{eqb-true, eq-eqb}
+use Rattle.std.specs.List.{starts_with}
 use Rattle.dimacs_lines.specs.Lines.{begins}
-use Rattle.dimacs_lines.proofs.Behind.{begins_fits}
 
-module _ (prefix bytes : List ℕ) (at : ℕ) where
-  -- bytes fewer than the letters
-  pub begins_short : at ≤ length bytes → length bytes < at + length prefix → false ≡ begins prefix (drop at bytes)
-  begins_short h l = go (begins prefix (drop at bytes)) refl
-    where
-      go : (t : Bool) → begins prefix (drop at bytes) ≡ t → false ≡ t
-      go true e = absurd (omega (arith, begins_fits prefix (drop at bytes) e, length-drop at bytes))
-      go false e = refl
+-- The slice of the bytes from a place on.
+pub behind_place : (bytes : List ℕ) (at : ℕ) → take (length bytes - at) (drop at bytes) ≡ drop at bytes
+behind_place bytes at = rw (sym (length-drop at bytes)) (take-length (drop at bytes))
 
-  -- i letters are those of the bytes, and the others decide
-  pub record Matched (i : ℕ) : Type 0 where
-    pub few : i ≤ length prefix
-    pub room : at + length prefix ≤ length bytes
-    pub same : begins prefix (drop at bytes) ≡ begins (drop i prefix) (drop (at + i) bytes)
+same_either_way : (x y : ℕ) → eqb x y ≡ eqb y x
+same_either_way x y = go (eqb x y) refl (eqb y x) refl
+  where
+    go : (t : Bool) → eqb x y ≡ t → (u : Bool) → eqb y x ≡ u → eqb x y ≡ eqb y x
+    go true e u f = e ∙ sym (eq-eqb y x (sym (eqb-true x y e)))
+    go false e true f = eq-eqb x y (sym (eqb-true y x f)) ∙ sym f
+    go false e false f = e ∙ sym f
 
-  pub matched_start : at + length prefix ≤ length bytes → Matched 0
-  matched_start h =
-      let e : at + 0 ≡ at = omega arith in
-      record { few = omega arith; room = h; same = rw e }
+starts_begins : (prefix bytes : List ℕ) → starts_with eqb bytes prefix ≡ begins prefix bytes
+unfolding begins
+starts_begins [] bytes = refl
+starts_begins (letter ∷ prefix) [] = refl
+starts_begins (letter ∷ prefix) (byte ∷ bytes) = rw (same_either_way letter byte, starts_begins prefix bytes) refl
 
-  module _ {i : ℕ} (M : Matched i) where
-    pub matched_not : i < length prefix → (get_or bytes (at + i) 0 ≡ get_or prefix i 0 → ⊥) → false ≡ begins prefix (drop at bytes)
-    unfolding begins
-    matched_not l h =
-        sym (M.same ∙ rw (
-          drop-cons prefix i 0 l,
-          drop-cons bytes (at + i) 0 (omega (arith, M.room)),
-          ne_eqb (get_or bytes (at + i) 0) (get_or prefix i 0) h,
-        ))
-
-    pub matched_next : i < length prefix → get_or bytes (at + i) 0 ≡ get_or prefix i 0 → Matched (i + 1)
-    unfolding begins
-    matched_next l h =
-        let next : at + suc i ≡ suc (at + i) = omega arith in
-        rw add-one
-        (record {
-          few = l;
-          room = M.room;
-          same =
-              M.same
-              ∙ rw (
-                drop-cons prefix i 0 l,
-                drop-cons bytes (at + i) 0 (omega (arith, M.room)),
-                eq-eqb (get_or bytes (at + i) 0) (get_or prefix i 0) h,
-                next,
-              );
-        })
-
-    pub matched_end : length prefix ≤ i → true ≡ begins prefix (drop at bytes)
-    unfolding begins
-    matched_end l = sym (M.same ∙ rw (drop_of_length-le prefix l))
+pub begins_at : (prefix bytes : List ℕ) (at : ℕ) {t : Bool} → t ≡ starts_with eqb (take (length bytes - at) (drop at bytes)) prefix → begins prefix (drop at bytes) ≡ t
+begins_at prefix bytes at e = sym (rw (behind_place bytes at) at e ∙ starts_begins prefix (drop at bytes))

@@ -7,22 +7,20 @@ use mathlib.Core.List.{List, [], ◌∷◌}
 use lib.Dec.{eqb}
 use lib.ListN.{length, drop, length-drop, drop_of_length-le}
 use lib.Seq.{drop-drop}
+use Rattle.std.specs.Prelude.{Option, Some, None}
 use Rattle.fields.specs.Fields.{Line, line_feed, line}
 use Rattle.fields.specs.Fields as fields
 use Rattle.fields.proofs.Lines as fields-lines
 use Rattle.dimacs_lines.specs.declared.RoadLine.{RoadLine}
-use Rattle.dimacs_lines.specs.declared.RoadLine.TheVariants.{IllFormed, Comment, Problem, RoadArc}
-use Rattle.dimacs_lines.specs.Lines.{space, comment_prefix, problem_prefix, arc_prefix, begins, comment_from, problem_of, problem_line, road_arc_of, road_arc_line}
-use Rattle.dimacs_lines.specs.Lines.{road_line, taken_by, line_and_behind, lines_from, road_lines}
+use Rattle.dimacs_lines.specs.declared.Told.TheVariants.{Comment}
+use Rattle.dimacs_lines.specs.Lines.{space, comment_prefix, problem_prefix, arc_prefix, begins, line_of, comment_from, problem_of, problem_line, road_arc_of, road_arc_line, road_line, line_and_behind, lines_from, road_lines}
 
 -- ---- the bytes that a line takes
 
 -- A line takes one byte at the least, and no more than there are.
-abbrev Takes : (most : ℕ) → RoadLine → Type 0
-Takes most IllFormed = Unit {0}
-Takes most (Comment taken) = (1 ≤ taken) × (taken ≤ most)
-Takes most (Problem nodes arcs taken) = (1 ≤ taken) × (taken ≤ most)
-Takes most (RoadArc tail head cost taken) = (1 ≤ taken) × (taken ≤ most)
+abbrev Takes : (most : ℕ) → Option RoadLine → Type 0
+Takes most None = Unit {0}
+Takes most (Some line) = (1 ≤ line.taken) × (line.taken ≤ most)
 
 -- bytes that begin with a prefix are as many as it has
 pub begins_fits : (prefix bytes : List ℕ) → begins prefix bytes ≡ true → length prefix ≤ length bytes
@@ -41,12 +39,12 @@ unfolding comment_from
 comment_takes taken most [] h = tt
 comment_takes taken most (byte ∷ bytes) h = go (eqb byte line_feed) (comment_takes (suc taken) most bytes (omega arith))
   where
-    go : (t : Bool) → Takes most (comment_from (suc taken) bytes) → Takes most (cond t (Comment (suc taken)) (comment_from (suc taken) bytes))
+    go : (t : Bool) → Takes most (comment_from (suc taken) bytes) → Takes most (cond t (Some (line_of Comment (suc taken))) (comment_from (suc taken) bytes))
     go true rest = (omega arith, omega arith)
     go false rest = rest
 
 -- numbers that `of` tells the meaning of, `count` of them behind `skipped` bytes
-numbers_takes : (of : Line → RoadLine) (count skipped : ℕ) (bytes : List ℕ) → skipped ≤ length bytes → Takes (length bytes) (of fields.NoLine)
+numbers_takes : (of : Line → Option RoadLine) (count skipped : ℕ) (bytes : List ℕ) → skipped ≤ length bytes → Takes (length bytes) (of fields.NoLine)
     → ((values : List ℕ) (taken : ℕ) → skipped + taken ≤ length bytes → Takes (length bytes) (of (fields.Numbers values taken)))
     → Takes (length bytes) (of (line space count (drop skipped bytes)))
 numbers_takes of count skipped bytes h none numbers = go (line space count (drop skipped bytes)) refl
@@ -68,37 +66,21 @@ unfolding road_line
 line_takes bytes =
     either (begins comment_prefix bytes) (comment_from 0 bytes) _ (λ e. comment_takes 0 (length bytes) bytes (omega arith))
     (either (begins problem_prefix bytes) (problem_line bytes) _ (λ e. problem_takes bytes (begins_fits problem_prefix bytes e))
-    (either (begins arc_prefix bytes) (road_arc_line bytes) IllFormed (λ e. arc_takes bytes (begins_fits arc_prefix bytes e)) tt))
+    (either (begins arc_prefix bytes) (road_arc_line bytes) None (λ e. arc_takes bytes (begins_fits arc_prefix bytes e)) tt))
   where
-    either : (t : Bool) (one other : RoadLine) → (t ≡ true → Takes (length bytes) one) → Takes (length bytes) other
+    either : (t : Bool) (one other : Option RoadLine) → (t ≡ true → Takes (length bytes) one) → Takes (length bytes) other
         → Takes (length bytes) (cond t one other)
     either true one other f rest = f refl
     either false one other f rest = rest
 
--- A line that is not ill-formed takes one byte at the least: 1 ≤ taken, at each of the three kinds.
-abbrev pub Some : RoadLine → Type 0
-Some IllFormed = Unit {0}
-Some (Comment taken) = 1 ≤ taken
-Some (Problem nodes arcs taken) = 1 ≤ taken
-Some (RoadArc tail head cost taken) = 1 ≤ taken
+line_taken : (bytes : List ℕ) {line : RoadLine} → road_line bytes ≡ Some line → (1 ≤ line.taken) × (line.taken ≤ length bytes)
+line_taken bytes e = subst (Takes (length bytes)) e (line_takes bytes)
 
-pub line_some : (bytes : List ℕ) {found : RoadLine} → road_line bytes ≡ found → Some found
-line_some bytes {found} e = go found (subst (Takes (length bytes)) e (line_takes bytes))
-  where
-    go : (found : RoadLine) → Takes (length bytes) found → Some found
-    go IllFormed t = tt
-    go (Comment taken) t = t.0
-    go (Problem nodes arcs taken) t = t.0
-    go (RoadArc tail head cost taken) t = t.0
+pub line_some : (bytes : List ℕ) {line : RoadLine} → road_line bytes ≡ Some line → 1 ≤ line.taken
+line_some bytes e = (line_taken bytes e).0
 
-pub line_within : (bytes : List ℕ) (at : ℕ) → at ≤ length bytes → at + taken_by (road_line (drop at bytes)) ≤ length bytes
-line_within bytes at h = go (road_line (drop at bytes)) (line_takes (drop at bytes))
-  where
-    go : (found : RoadLine) → Takes (length (drop at bytes)) found → at + taken_by found ≤ length bytes
-    go IllFormed t = omega arith
-    go (Comment taken) t = omega (arith, t.1, length-drop at bytes)
-    go (Problem nodes arcs taken) t = omega (arith, t.1, length-drop at bytes)
-    go (RoadArc tail head cost taken) t = omega (arith, t.1, length-drop at bytes)
+pub line_within : (bytes : List ℕ) (at : ℕ) {line : RoadLine} → at ≤ length bytes → road_line (drop at bytes) ≡ Some line → at + line.taken ≤ length bytes
+line_within bytes at h e = omega (arith, (line_taken (drop at bytes) e).1, length-drop at bytes)
 
 -- ---- the lines behind a line
 
@@ -119,14 +101,12 @@ behind (suc taken) byte bytes l =
 lines_front : (bytes : List ℕ) → 1 ≤ length bytes → road_lines bytes ≡ line_and_behind (road_line bytes) (λ taken. road_lines (drop taken bytes))
 unfolding lines_from
 lines_front [] l = absurd (omega arith)
-lines_front (byte ∷ bytes) l = go (road_line (byte ∷ bytes)) (line_some (byte ∷ bytes) refl)
+lines_front (byte ∷ bytes) l = go (road_line (byte ∷ bytes)) refl
   where
-    go : (found : RoadLine) → Some found
+    go : (found : Option RoadLine) → road_line (byte ∷ bytes) ≡ found
         → line_and_behind found (λ taken. lines_from (taken - 1) bytes) ≡ line_and_behind found (λ taken. road_lines (drop taken (byte ∷ bytes)))
-    go IllFormed s = refl
-    go (Comment taken) s = ap (λ (l : List RoadLine). Comment taken ∷ l) (behind taken byte bytes s)
-    go (Problem nodes arcs taken) s = ap (λ (l : List RoadLine). Problem nodes arcs taken ∷ l) (behind taken byte bytes s)
-    go (RoadArc tail head cost taken) s = ap (λ (l : List RoadLine). RoadArc tail head cost taken ∷ l) (behind taken byte bytes s)
+    go None e = refl
+    go (Some line) e = ap (λ (lines : List (Option RoadLine)). Some line ∷ lines) (behind line.taken byte bytes (line_some (byte ∷ bytes) e))
 
 pub lines_at : (bytes : List ℕ) (at : ℕ) → at < length bytes
     → road_lines (drop at bytes) ≡ line_and_behind (road_line (drop at bytes)) (λ taken. road_lines (drop (at + taken) bytes))

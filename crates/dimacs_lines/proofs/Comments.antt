@@ -1,46 +1,35 @@
--- A comment read byte by byte up to its line feed. Assumes nothing.
-use Prim.Native.Nat.{ℕ, suc, ◌+◌, ◌-◌, ◌≤◌, ◌<◌}
-use native.Mathlib.Omega.{arith}
+-- A comment goes up to its first line feed, which the library finds. Assumes nothing.
+use Prim.Native.Nat.{ℕ, suc, ◌+◌}
 use native.Mathlib.Numerals.{add-one}
-use mathlib.Core.Path.{◌≡◌, sym, ◌∙◌}
-use mathlib.Core.List.{List}
-use lib.ListN.{length, get_or, drop, drop_of_length-le}
-use lib.Seq.{drop-cons}
-use borrow.Author.Tests.{eq-eqb, ne_eqb}
+use mathlib.Core.Path.{◌≡◌, refl, ◌∙◌, ap}
+use mathlib.Core.Bool.{Bool, true, false, cond}
+use mathlib.Core.List.{List, [], ◌∷◌}
+use lib.Dec.{eqb}
+use Rattle.std.specs.Prelude.{Option, Some, option_map, position}
+use Rattle.std.specs.List.{position_from}
+use Rattle.std.proofs.lemmas.Iterator.Adapters.{position_from-zero}
 use Rattle.fields.specs.Fields.{line_feed}
-use Rattle.dimacs_lines.specs.declared.RoadLine.TheVariants.{IllFormed, Comment}
-use Rattle.dimacs_lines.specs.Lines.{comment_from}
+use Rattle.dimacs_lines.specs.declared.RoadLine.{RoadLine}
+use Rattle.dimacs_lines.specs.declared.Told.TheVariants.{Comment}
+use Rattle.dimacs_lines.specs.Lines.{line_of, comment_from}
 
-module _ (bytes : List ℕ) (at : ℕ) where
-  -- no line feed stands before `end`
-  pub record CommentUpTo (end : ℕ) : Type 0 where
-    pub start : at ≤ end
-    pub within : end ≤ length bytes
-    pub same : comment_from 0 (drop at bytes) ≡ comment_from (end - at) (drop end bytes)
+abbrev pub is_feed : ℕ → Bool
+is_feed byte = eqb byte line_feed
 
-  pub passed_start : at ≤ length bytes → CommentUpTo at
-  passed_start h =
-      let none : at - at ≡ 0 = omega arith in
-      record { start = omega arith; within = h; same = rw none }
+-- The comment whose line feed stands at an index.
+abbrev pub comment_to : (feed : ℕ) → RoadLine
+comment_to feed = line_of Comment (feed + 1)
 
-  module _ {end : ℕ} (P : CommentUpTo end) where
-    pub passed_feed : end < length bytes → get_or bytes end 0 ≡ line_feed → Comment (end + 1 - at) ≡ comment_from 0 (drop at bytes)
-    unfolding comment_from
-    passed_feed l e =
-        let all : end + 1 - at ≡ suc (end - at) = omega (arith, P.start) in
-        sym (P.same ∙ rw (drop-cons bytes end 0 l, eq-eqb (get_or bytes end 0) line_feed e, all))
+from_found : (taken : ℕ) (bytes : List ℕ) → option_map comment_to (position_from is_feed taken bytes) ≡ comment_from taken bytes
+unfolding comment_from
+from_found taken [] = refl
+from_found taken (byte ∷ bytes) = go (is_feed byte) (from_found (taken + 1) bytes)
+  where
+    go : (t : Bool) → option_map comment_to (position_from is_feed (taken + 1) bytes) ≡ comment_from (taken + 1) bytes
+        → option_map comment_to (cond t (Some taken) (position_from is_feed (taken + 1) bytes)) ≡ cond t (Some (line_of Comment (suc taken))) (comment_from (suc taken) bytes)
+    go true behind = ap (λ (k : ℕ). Some (line_of Comment k)) (add-one taken)
+    go false behind = behind ∙ ap (λ (k : ℕ). comment_from k bytes) (add-one taken)
 
-    pub passed_next : end < length bytes → (get_or bytes end 0 ≡ line_feed → ⊥) → CommentUpTo (end + 1)
-    unfolding comment_from
-    passed_next l h =
-        let more : suc end - at ≡ suc (end - at) = omega (arith, P.start) in
-        rw add-one
-        (record {
-          start = omega (arith, P.start);
-          within = l;
-          same = P.same ∙ rw (drop-cons bytes end 0 l, ne_eqb (get_or bytes end 0) line_feed h, more);
-        })
-
-    pub passed_end : length bytes ≤ end → IllFormed ≡ comment_from 0 (drop at bytes)
-    unfolding comment_from
-    passed_end l = sym (P.same ∙ rw (drop_of_length-le bytes l))
+-- The library finds the first line feed of the bytes from a place on.
+pub comment_found : (bytes : List ℕ) {found : Option ℕ} → found ≡ position is_feed bytes → option_map comment_to found ≡ comment_from 0 bytes
+comment_found bytes e = ap (option_map comment_to) (e ∙ position_from-zero is_feed bytes) ∙ from_found 0 bytes

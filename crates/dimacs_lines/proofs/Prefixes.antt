@@ -3,7 +3,7 @@ use Prim.Native.Nat.{ℕ}
 use mathlib.Core.Path.{◌≡◌}
 use mathlib.Core.Bool.{true, false}
 use mathlib.Core.List.{List}
-use Rattle.dimacs_lines.specs.declared.RoadLine.TheVariants.{IllFormed}
+use Rattle.std.specs.Prelude.{None}
 use Rattle.dimacs_lines.specs.Lines.{comment_prefix, problem_prefix, arc_prefix, begins, comment_from, problem_line, road_arc_line, road_line}
 
 module _ (bytes : List ℕ) where
@@ -21,6 +21,6 @@ module _ (bytes : List ℕ) where
       unfolding road_line
       line_arc e = rw (c, p, e)
 
-      pub line_none : begins arc_prefix bytes ≡ false → IllFormed ≡ road_line bytes
+      pub line_none : begins arc_prefix bytes ≡ false → None ≡ road_line bytes
       unfolding road_line
       line_none e = rw (c, p, e)

@@ -1,16 +1,16 @@
 -- Digits read one at a time: after `count` of them the rest follows, whatever they are. Assumes nothing.
 use mathlib.Core.Path.{◌≡◌, refl, ◌∙◌, ap}
-use mathlib.Core.Bool.{Bool, true, false, not, ◌&&◌, ◌||◌, true≢false, false≢true}
+use mathlib.Core.Bool.{Bool, true, false, ◌&&◌, false≢true}
 use mathlib.Core.List.{List, [], ◌∷◌}
 use Prim.Native.Nat.{ℕ, zero, suc, ◌+◌, ◌-◌, ◌*◌, ◌^◌, ◌≤◌, ◌<◌}
 use native.Mathlib.Nat.{pow-succ', pow-le-pow_right}
 use native.Mathlib.Numerals.{add-one}
 use native.Mathlib.Omega.{arith}
-use lib.Dec.{leb, eqb}
+use lib.Dec.{leb}
 use lib.ListN.{length, get_or, drop}
 use lib.Seq.{drop-nil}
-use borrow.Author.Tests.{leb-true, eqb-true, eqb-false, not-true, not-false}
-use Rattle.fields.specs.Fields.{is_digit_lem, digits, number_from, byte_at}
+use borrow.Author.Tests.{leb-true}
+use Rattle.fields.specs.Fields.{is_digit, digits, number_from, byte_at}
 use Rattle.fields.specs.Reading.{DigitsRead}
 
 -- ---- a byte that is a digit, and one that is not
@@ -23,24 +23,24 @@ pub and_second : (a b : Bool) → (a && b) ≡ true → b ≡ true
 and_second true b e = e
 and_second false b e = absurd (false≢true e)
 
-pub digit_low : (byte : ℕ) → is_digit_lem byte ≡ true → 48 ≤ byte
+pub digit_low : (byte : ℕ) → is_digit byte ≡ true → 48 ≤ byte
 digit_low byte e = leb-true 48 byte (and_first (leb 48 byte) (leb byte 57) e)
 
-pub digit_high : (byte : ℕ) → is_digit_lem byte ≡ true → byte ≤ 57
+pub digit_high : (byte : ℕ) → is_digit byte ≡ true → byte ≤ 57
 digit_high byte e = leb-true byte 57 (and_second (leb 48 byte) (leb byte 57) e)
 
-digit_within : (bytes : List ℕ) (i : ℕ) → is_digit_lem (byte_at bytes i) ≡ true → i < length bytes
+digit_within : (bytes : List ℕ) (i : ℕ) → is_digit (byte_at bytes i) ≡ true → i < length bytes
 digit_within [] i e = absurd (false≢true e)
 digit_within (byte ∷ bytes) zero e = omega arith
 digit_within (byte ∷ bytes) (suc i) e = let l = digit_within bytes i e in omega arith
 
-digits_more : (bytes : List ℕ) (i : ℕ) → is_digit_lem (byte_at bytes i) ≡ true → digits (drop i bytes) ≡ byte_at bytes i ∷ digits (drop (suc i) bytes)
+digits_more : (bytes : List ℕ) (i : ℕ) → is_digit (byte_at bytes i) ≡ true → digits (drop i bytes) ≡ byte_at bytes i ∷ digits (drop (suc i) bytes)
 unfolding digits
 digits_more [] i e = absurd (false≢true e)
 digits_more (byte ∷ bytes) zero e = rw e
 digits_more (byte ∷ bytes) (suc i) e = digits_more bytes i e
 
-digits_end : (bytes : List ℕ) (i : ℕ) → is_digit_lem (byte_at bytes i) ≡ false → digits (drop i bytes) ≡ []
+digits_end : (bytes : List ℕ) (i : ℕ) → is_digit (byte_at bytes i) ≡ false → digits (drop i bytes) ≡ []
 unfolding digits
 digits_end [] i e = rw drop-nil
 digits_end (byte ∷ bytes) zero e = rw e
@@ -60,12 +60,12 @@ counted_start bytes = record { within = omega arith; few = omega arith; low = om
 
 module _ {bytes : List ℕ} {count value : ℕ} (c : Counted bytes count value) where
   -- a number that one digit more still fits
-  pub small : (count ≡ 8 → ⊥) → value < 10000000
+  pub small : count < 8 → value < 10000000
   small h =
-      let l : 10 ^ count ≤ 10 ^ 7 = pow-le-pow_right (omega arith) {i = count} {j = 7} (omega (arith, c.few, h)) in
+      let l : 10 ^ count ≤ 10 ^ 7 = pow-le-pow_right (omega arith) {i = count} {j = 7} (omega (arith, h)) in
       omega (arith, c.low)
 
-  pub counted_next : (count ≡ 8 → ⊥) → is_digit_lem (byte_at bytes count) ≡ true
+  pub counted_next : count < 8 → is_digit (byte_at bytes count) ≡ true
       → Counted bytes (count + 1) (10 * value + (byte_at bytes count - 48))
   unfolding number_from
   counted_next h e =
@@ -76,13 +76,13 @@ module _ {bytes : List ℕ} {count value : ℕ} (c : Counted bytes count value) 
       rw add-one
       (record {
         within = omega arith;
-        few = omega (arith, c.few, h);
+        few = omega (arith, h);
         low = omega (arith, c.low);
         length_so = omega (arith, c.length_so, ap length more);
         number_so = c.number_so ∙ ap (number_from value) more;
       })
 
-  counted_end : (count ≡ 8 → ⊥) → is_digit_lem (byte_at bytes count) ≡ false → DigitsRead bytes count value
+  pub counted_end : count < 8 → is_digit (byte_at bytes count) ≡ false → DigitsRead bytes count value
   unfolding number_from
   counted_end h e =
       let no = digits_end bytes count e in
@@ -90,31 +90,16 @@ module _ {bytes : List ℕ} {count value : ℕ} (c : Counted bytes count value) 
         within = c.within;
         few = λ _. omega (arith, c.length_so, ap length no);
         spelled = λ _. c.number_so ∙ ap (number_from value) no;
-        many = λ l. absurd (omega (arith, c.few, h));
+        many = λ l. absurd (omega (arith, h));
       }
 
-  counted_full : count ≡ 8 → DigitsRead bytes count value
-  counted_full e = record {
-    within = c.within;
+  pub counted_full : 8 ≤ count → DigitsRead bytes 8 value
+  counted_full h = record {
+    within = omega (arith, c.within);
     few = λ l. absurd (omega arith);
     spelled = λ l. absurd (omega arith);
-    many = λ _. omega (arith, c.length_so);
+    many = λ _. omega (arith, c.few, c.length_so);
   }
-
-  pub counted_stop : (eqb count 8 || not (is_digit_lem (byte_at bytes count))) ≡ true → DigitsRead bytes count value
-  counted_stop e = go (eqb count 8) refl e
-    where
-      go : (t : Bool) → eqb count 8 ≡ t → (t || not (is_digit_lem (byte_at bytes count))) ≡ true → DigitsRead bytes count value
-      go true f e = counted_full (eqb-true count 8 f)
-      go false f e = counted_end (eqb-false count 8 f) (not-true _ e)
-
--- a digit more is read where the test to stop fails
-pub goes_on : (count byte : ℕ) → (eqb count 8 || not (is_digit_lem byte)) ≡ false → (count ≡ 8 → ⊥) × (is_digit_lem byte ≡ true)
-goes_on count byte e = go (eqb count 8) refl e
-  where
-    go : (t : Bool) → eqb count 8 ≡ t → (t || not (is_digit_lem byte)) ≡ false → (count ≡ 8 → ⊥) × (is_digit_lem byte ≡ true)
-    go true f e = absurd (true≢false e)
-    go false f e = (eqb-false count 8 f, not-false _ e)
 
 -- ---- a byte at a place
 

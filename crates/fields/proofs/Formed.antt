@@ -10,15 +10,15 @@ use lib.Dec.{leb, eqb}
 use lib.ListN.{length, get_or, drop}
 use lib.Seq.{get_or-drop}
 use borrow.Author.Tests.{lt-leb, leb-true, leb-false}
-use Rattle.fields.specs.declared.Field.TheVariants.{NoField, Value}
-use Rattle.fields.specs.Fields.{is_digit_lem, digits, is_field, byte_at, field}
+use Rattle.std.specs.Prelude.{None, Some}
+use Rattle.fields.specs.Fields.{is_digit, digits, is_field, byte_at, field}
 use Rattle.fields.specs.Reading.{DigitsRead}
 
 -- the first digit is the first byte
 first_digit : (bytes : List ℕ) → 1 ≤ length (digits bytes) → get_or (digits bytes) 0 0 ≡ byte_at bytes 0
 unfolding digits
 first_digit [] l = absurd (omega arith)
-first_digit (byte ∷ bytes) l = go (is_digit_lem byte) l
+first_digit (byte ∷ bytes) l = go (is_digit byte) l
   where
     go : (t : Bool) → 1 ≤ length (cond t (byte ∷ digits bytes) []) → get_or (cond t (byte ∷ digits bytes) []) 0 0 ≡ byte
     go true l = refl
@@ -78,12 +78,12 @@ module _ {bytes : List ℕ} {count value : ℕ} (read : DigitsRead bytes count v
       go true e = few (leb-true count 7 e)
       go false e = many (leb-false count 7 e)
 
-  pub formed_field : formed bytes count end ≡ true → Value value (count + 1) ≡ field end bytes
+  pub formed_field : formed bytes count end ≡ true → Some (record { value = value; taken = count + 1 }) ≡ field end bytes
   unfolding field
   formed_field e =
       let l = leb-true count 7 (second_of (leb 1 count) (leb count 7) (eqb count 1 || not (eqb (byte_at bytes 0) 48)) (eqb (byte_at bytes count) end) e) in
       rw (sym same ∙ e, read.spelled l, read.few l, add-one)
 
-  pub formless_field : formed bytes count end ≡ false → NoField ≡ field end bytes
+  pub formless_field : formed bytes count end ≡ false → None ≡ field end bytes
   unfolding field
   formless_field e = rw (sym same ∙ e)

@@ -8,7 +8,7 @@ use lib.Dec.{ltb, eqb}
 use lib.ListN.{length, drop, replicate, length-drop, get_or-eq_default}
 use borrow.Author.Tests.{ltb-true, ltb-false, eqb-true}
 use Rattle.fields.specs.declared.Field.{Field}
-use Rattle.fields.specs.declared.Field.TheVariants.{NoField, Value}
+use Rattle.std.specs.Prelude.{Option, None, Some}
 use Rattle.fields.specs.Fields.{digits, number_from, is_field, byte_at, field, Line, NoLine, Numbers, joined, followed, fields, line_feed, line_ends, line}
 use Rattle.fields.proofs.Digits.{and_second}
 
@@ -21,22 +21,22 @@ byte_within bytes i byte l e = go (ltb i (length bytes)) refl
     go false f = absurd (omega (arith, e, get_or-eq_default bytes 256 {n = i} (ltb-false i (length bytes) f)))
 
 -- a field takes a byte for each digit, and the one that ends it
-field_within : (bytes : List ℕ) (end : ℕ) {value taken : ℕ} → end < 256 → field end bytes ≡ Value value taken → taken ≤ length bytes
+field_within : (bytes : List ℕ) (end : ℕ) {read : Field} → end < 256 → field end bytes ≡ Some read → read.taken ≤ length bytes
 unfolding field
-field_within bytes end {value} {taken} l e = go (is_field (digits bytes) && eqb (byte_at bytes (length (digits bytes))) end) refl e
+field_within bytes end {read} l e = go (is_field (digits bytes) && eqb (byte_at bytes (length (digits bytes))) end) refl e
   where
     go : (t : Bool) → (is_field (digits bytes) && eqb (byte_at bytes (length (digits bytes))) end) ≡ t
-        → cond t (Value (number_from 0 (digits bytes)) (suc (length (digits bytes)))) NoField ≡ Value value taken → taken ≤ length bytes
+        → cond t (Some (record { value = number_from 0 (digits bytes); taken = suc (length (digits bytes)) })) None ≡ Some read → read.taken ≤ length bytes
     go true f e =
         let ends = eqb-true (byte_at bytes (length (digits bytes))) end (and_second (is_field (digits bytes)) _ f) in
-        let same : suc (length (digits bytes)) ≡ taken = cc in
+        let same : suc (length (digits bytes)) ≡ read.taken = cc in
         omega (arith, byte_within bytes (length (digits bytes)) end l ends)
     go false f e = absurd (let z : ◌≡◌ {A = ℕ} 0 1 = cc in omega arith)
 
 module _ (bytes : List ℕ) (at end : ℕ) where
   -- the place behind a field
-  pub behind_within : {value taken : ℕ} → end < 256 → at ≤ length bytes → field end (drop at bytes) ≡ Value value taken
-      → at + taken ≤ length bytes
+  pub behind_within : {read : Field} → end < 256 → at ≤ length bytes → field end (drop at bytes) ≡ Some read
+      → at + read.taken ≤ length bytes
   behind_within l h e = omega (arith, field_within (drop at bytes) end l e, length-drop at bytes)
 
 -- ---- a line lies within the bytes
@@ -61,11 +61,12 @@ fields_within (end ∷ ends) (more l m) bytes values taken e = go (field end byt
         let sum : at + taken' ≡ taken = cc in
         omega (arith, rest values' taken' f, length-drop at bytes)
 
-    go : (found : Field) → field end bytes ≡ found → followed found (λ at. fields ends (drop at bytes)) ≡ Numbers values taken
+    go : (found : Option Field) → field end bytes ≡ found → followed found (λ at. fields ends (drop at bytes)) ≡ Numbers values taken
         → ((at : ℕ) (values : List ℕ) (taken : ℕ) → fields ends (drop at bytes) ≡ Numbers values taken → taken ≤ length (drop at bytes))
         → taken ≤ length bytes
-    go NoField f e rest = absurd (let z : ◌≡◌ {A = ℕ} 0 1 = cc in omega arith)
-    go (Value value at) f e rest = behind at (field_within bytes end l f) value (fields ends (drop at bytes)) refl e (rest at)
+    go None f e rest = absurd (let z : ◌≡◌ {A = ℕ} 0 1 = cc in omega arith)
+    go (Some read) f e rest =
+        behind read.taken (field_within bytes end l f) read.value (fields ends (drop read.taken bytes)) refl e (rest read.taken)
 
 line_ends_lem : (separator : ℕ) → separator < 256 → (count : ℕ) → EndsInBytes (replicate count separator ++ (line_feed ∷ []))
 line_ends_lem separator l zero = let byte : line_feed < 256 = omega arith in more byte none

@@ -8,18 +8,17 @@ use native.Mathlib.Omega.{arith}
 use lib.ListN.{length, get_or, drop, replicate, length-append, length-replicate, get_or-append}
 use lib.Seq.{get_or-append_seam, drop-append-add}
 use borrow.Author.Tests.{le-leb, eq-eqb, ne_eqb}
-use Rattle.fields.specs.declared.Field.TheVariants.{NoField, Value}
-use Rattle.fields.specs.Fields.{is_digit_lem, digits, number_from, is_field, field, Numbers, fields}
-use Rattle.fields.specs.Fields.{line_feed, line_ends, line, decimal_by, decimal, render_fields, render_line}
+use Rattle.std.specs.Prelude.{None, Some}
+use Rattle.fields.specs.Fields.{is_digit, digits, number_from, is_field, field, Numbers, fields, line_feed, line_ends, line, decimal_by, decimal, render_fields, render_line}
 use Rattle.fields.proofs.Decimals.{by_digits, one_digit, by_tenth, digits_least, tenth_length, tenth_below}
 
 -- Every byte is a digit.
 data Digits : List ℕ → Type 0 where
   none : Digits []
-  one : {byte : ℕ} {bytes : List ℕ} → is_digit_lem byte ≡ true → Digits bytes → Digits (byte ∷ bytes)
+  one : {byte : ℕ} {bytes : List ℕ} → is_digit byte ≡ true → Digits bytes → Digits (byte ∷ bytes)
 
-is_digit : (digit : ℕ) → digit < 10 → is_digit_lem (48 + digit) ≡ true
-is_digit digit l = rw (le-leb 48 (48 + digit) (omega arith), le-leb (48 + digit) 57 (omega arith))
+digit_byte : (digit : ℕ) → digit < 10 → is_digit (48 + digit) ≡ true
+digit_byte digit l = rw (le-leb 48 (48 + digit) (omega arith), le-leb (48 + digit) 57 (omega arith))
 
 both : {xs ys : List ℕ} → Digits xs → Digits ys → Digits (xs ++ ys)
 both none h = h
@@ -27,14 +26,14 @@ both (one d more) h = one d (both more h)
 
 decimal_digits : (places value : ℕ) → Digits (decimal_by places value)
 unfolding decimal_by
-decimal_digits zero value = one (is_digit (value % 10) (omega arith)) none
+decimal_digits zero value = one (digit_byte (value % 10) (omega arith)) none
 decimal_digits (suc places) value = elim (by_digits value) [
-  | inl l ↦ rw (one_digit (suc places) value l) (one (is_digit value l) none)
-  | inr l ↦ rw (by_tenth places value l) (both (decimal_digits places (value / 10)) (one (is_digit (value % 10) (omega arith)) none))
+  | inl l ↦ rw (one_digit (suc places) value l) (one (digit_byte value l) none)
+  | inr l ↦ rw (by_tenth places value l) (both (decimal_digits places (value / 10)) (one (digit_byte (value % 10) (omega arith)) none))
 ]
 
 -- Digits are read up to the byte that is none.
-digits_read : (end : ℕ) → is_digit_lem end ≡ false → {bytes : List ℕ} → Digits bytes → (rest : List ℕ) → digits (bytes ++ (end ∷ rest)) ≡ bytes
+digits_read : (end : ℕ) → is_digit end ≡ false → {bytes : List ℕ} → Digits bytes → (rest : List ℕ) → digits (bytes ++ (end ∷ rest)) ≡ bytes
 unfolding digits
 digits_read end e none rest = rw e
 digits_read end e (one {byte} {bytes} d more) rest =
@@ -93,8 +92,8 @@ decimal_field value l = elim (by_digits value) [
 ]
 
 -- A number below 10^7 that was rendered is the field that is read.
-pub number_decimal : (end : ℕ) → is_digit_lem end ≡ false → (value : ℕ) → value < 10 ^ 7 → (rest : List ℕ)
-    → field end (decimal value ++ (end ∷ rest)) ≡ Value value (suc (length (decimal value)))
+pub number_decimal : (end : ℕ) → is_digit end ≡ false → (value : ℕ) → value < 10 ^ 7 → (rest : List ℕ)
+    → field end (decimal value ++ (end ∷ rest)) ≡ Some (record { value = value; taken = suc (length (decimal value)) })
 unfolding field
 number_decimal end e value l rest =
     rw (
@@ -106,8 +105,8 @@ number_decimal end e value l rest =
     )
 
 -- A number that another byte ends is no field.
-pub number_other : (end other : ℕ) → is_digit_lem other ≡ false → other ≢ end → (value : ℕ) (rest : List ℕ)
-    → field end (decimal value ++ (other ∷ rest)) ≡ NoField
+pub number_other : (end other : ℕ) → is_digit other ≡ false → other ≢ end → (value : ℕ) (rest : List ℕ)
+    → field end (decimal value ++ (other ∷ rest)) ≡ None
 unfolding field
 number_other end other e away value rest =
     rw (
@@ -120,7 +119,7 @@ number_other end other e away value rest =
 -- No end is a digit.
 abbrev pub NoDigits : (ends : List ℕ) → Type 0
 NoDigits [] = Unit
-NoDigits (end ∷ ends) = (is_digit_lem end ≡ false) × NoDigits ends
+NoDigits (end ∷ ends) = (is_digit end ≡ false) × NoDigits ends
 
 -- Each value fits a field.
 abbrev pub FitFields : (values : List ℕ) → Type 0
@@ -147,7 +146,7 @@ fields_render (end ∷ ends) (value ∷ values) rest apart fit same =
     )
     (ap (λ (k : ℕ). Numbers (value ∷ values) k) (omega (arith, length-append (decimal value) (end ∷ render_fields ends values))))
 
-separators_apart : (separator count : ℕ) → is_digit_lem separator ≡ false → NoDigits (replicate count separator ++ (line_feed ∷ []))
+separators_apart : (separator count : ℕ) → is_digit separator ≡ false → NoDigits (replicate count separator ++ (line_feed ∷ []))
 separators_apart separator zero e = (refl, tt)
 separators_apart separator (suc count) e = (e, separators_apart separator count e)
 
@@ -159,7 +158,7 @@ ends_length separator count l = omega (
 )
 
 -- A line of numbers below 10^7 that was rendered is the line that is read.
-pub line_render : (separator : ℕ) → is_digit_lem separator ≡ false → (values rest : List ℕ) → FitFields values → 1 ≤ length values
+pub line_render : (separator : ℕ) → is_digit separator ≡ false → (values rest : List ℕ) → FitFields values → 1 ≤ length values
     → line separator (length values) (render_line separator values ++ rest) ≡ Numbers values (length (render_line separator values))
 line_render separator e values rest fit l =
     fields_render (line_ends separator (length values)) values rest (separators_apart separator (length values - 1) e) fit

@@ -1,19 +1,18 @@
 -- Decimal fields and lines of them, read from bytes and rendered (document 01, "Planning file"). What ends a field is a parameter, and
 -- so are the separator and the number of fields of a line.
-use Rattle.std.specs.Prelude.{ℕ, zero, suc, ◌+◌, ◌-◌, ◌*◌, ◌/◌, ◌%◌, Bool, cond, not, ◌&&◌, ◌||◌, List, [], ◌∷◌, ◌++◌, ltb, leb, eqb, length, get_or, drop, replicate}
+use Rattle.std.specs.Prelude.{ℕ, zero, suc, ◌+◌, ◌-◌, ◌*◌, ◌/◌, ◌%◌, Bool, cond, not, ◌&&◌, ◌||◌, List, [], ◌∷◌, ◌++◌, ltb, leb, eqb, length, get_or, drop, replicate, Option, None, Some}
 use Rattle.fields.specs.declared.Field.{Field}
-use Rattle.fields.specs.declared.Field.TheVariants.{NoField, Value}
 
 -- ---- reading
 
 -- A byte is one of the digits 0 to 9 (document 01, "Planning file").
-abbrev pub is_digit_lem : ℕ → Bool
-is_digit_lem byte = leb 48 byte && leb byte 57
+abbrev pub is_digit : ℕ → Bool
+is_digit byte = leb 48 byte && leb byte 57
 
 -- The digits at the front of the bytes (document 01, "Planning file").
 unfoldable pub digits : List ℕ → List ℕ
 digits [] = []
-digits (byte ∷ bytes) = cond (is_digit_lem byte) (byte ∷ digits bytes) []
+digits (byte ∷ bytes) = cond (is_digit byte) (byte ∷ digits bytes) []
 
 -- The number that digits spell after those that spelled `before` (document 01, "Planning file").
 unfoldable pub number_from : (before : ℕ) → List ℕ → ℕ
@@ -30,11 +29,11 @@ byte_at bytes i = get_or bytes i 256
 
 -- The field at the front of the bytes, ended by byte `end`: its value, and the bytes that it takes with that byte (document 01,
 -- "Planning file").
-unfoldable pub field : (end : ℕ) → List ℕ → Field
+unfoldable pub field : (end : ℕ) → List ℕ → Option Field
 field end bytes =
     cond (is_field (digits bytes) && eqb (byte_at bytes (length (digits bytes))) end)
-    (Value (number_from 0 (digits bytes)) (suc (length (digits bytes))))
-    NoField
+    (Some (record { value = number_from 0 (digits bytes); taken = suc (length (digits bytes)) }))
+    None
 
 -- The numbers of a line, and the bytes that it takes; or none, if it is ill-formed (document 01, "Planning file").
 pub data Line : Type 0 where
@@ -47,9 +46,9 @@ joined value taken NoLine = NoLine
 joined value taken (Numbers values more) = Numbers (value ∷ values) (taken + more)
 
 -- A field, and the line that is read behind the bytes that it takes.
-abbrev pub followed : Field → (behind : ℕ → Line) → Line
-followed NoField behind = NoLine
-followed (Value value taken) behind = joined value taken (behind taken)
+abbrev pub followed : Option Field → (behind : ℕ → Line) → Line
+followed None behind = NoLine
+followed (Some read) behind = joined read.value read.taken (behind read.taken)
 
 -- Fields one behind the other, each with the byte that ends it (document 01, "Planning file").
 unfoldable pub fields : (ends : List ℕ) → List ℕ → Line

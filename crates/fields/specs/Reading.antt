@@ -1,9 +1,6 @@
 -- What the reading of a field's digits and of a line finds (document 01, "Planning file").
-use Rattle.std.specs.Prelude.{ℕ, ◌≤◌, ◌<◌, ◌≡◌, List, [], ◌∷◌, length, drop}
+use Rattle.std.specs.Prelude.{ℕ, ◌≤◌, ◌<◌, ◌≡◌, List, [], ◌∷◌, length, drop, Option, None, Some}
 use Rattle.fields.specs.declared.Field.{Field}
-use Rattle.fields.specs.declared.Field.TheVariants.{NoField, Value}
-use Rattle.fields.specs.declared.LineRead.{LineRead}
-use Rattle.fields.specs.declared.LineRead.TheVariants.{Missing, Taken}
 use Rattle.fields.specs.Fields.{digits, number_from, field, Line, NoLine, Numbers}
 
 -- The digits at the front of the bytes, of which at most 8 are counted: a field has 7 at the most (document 01, "Planning file").
@@ -14,14 +11,14 @@ pub record DigitsRead (bytes : List ℕ) (count value : ℕ) : Type 0 where
   pub many : 7 < count → 7 < length (digits bytes)
 
 -- The bytes that a line takes (document 01, "Planning file").
-abbrev pub line_taken : Line → LineRead
-line_taken NoLine = Missing
-line_taken (Numbers values taken) = Taken taken
+abbrev pub line_taken : Line → Option ℕ
+line_taken NoLine = None
+line_taken (Numbers values taken) = Some taken
 
 -- A field's value in the first of the words, and what is read behind it in the others; without a field the words stay.
-abbrev pub value_into : Field → (word : ℕ) → (words : List ℕ) → (behind : ℕ → List ℕ) → List ℕ
-value_into NoField word words behind = word ∷ words
-value_into (Value value taken) word words behind = value ∷ behind taken
+abbrev pub value_into : Option Field → (word : ℕ) → (words : List ℕ) → (behind : ℕ → List ℕ) → List ℕ
+value_into None word words behind = word ∷ words
+value_into (Some read) word words behind = read.value ∷ behind read.taken
 
 -- The words with the values of fields one behind the other, up to the first that is ill-formed (document 01, "Planning file").
 unfoldable pub fields_into : (ends : List ℕ) → (bytes words : List ℕ) → List ℕ

@@ -1,9 +1,9 @@
 // Fields and lines read from bytes (document 01, "Planning file").
 ghost use Rattle.std.specs.Prelude.{◌≡◌, ◌≤◌, ◌<◌, length, get_or, drop};
-ghost use Rattle.fields.specs.Fields.{field, is_digit_lem, byte_at, line_ends, line};
+ghost use Rattle.fields.specs.Fields.{field, is_digit, byte_at, line_ends, line};
 ghost use Rattle.fields.specs.Reading.{DigitsRead, line_taken, fields_into};
 
-use crate::{Field, LineRead};
+use crate::Field;
 
 // The digits at a place, of which one more than a field has are enough to refuse it, and the number that they spell.
 #[derive(Clone, Copy)]
@@ -13,7 +13,7 @@ struct Digits {
 }
 
 // The field at a place of the bytes, ended by byte `end`.
-pub fn field_at(bytes: &[u8], at: usize, end: u8) -> Field
+pub fn field_at(bytes: &[u8], at: usize, end: u8) -> Option<Field>
     requires { at ≤ length bytes.now }
     ensures { result ≡ field end (drop at bytes.now) }
 {
@@ -22,18 +22,18 @@ pub fn field_at(bytes: &[u8], at: usize, end: u8) -> Field
     let alone = (count == 1) | (byte_at(bytes, at) != 48);
     let ended = byte_at(bytes, at + count) == end as u32;
     if (count >= 1) & (count <= 7) & alone & ended {
-        Field::Value {
+        Some(Field {
             value: read.value,
             taken: count + 1,
-        }
+        })
     } else {
-        Field::NoField
+        None
     }
 }
 
-// The line at a place of the bytes, of as many fields as there are words for their values. Where it is ill-formed, the values of the fields
-// before the fault are written.
-pub fn line_at(bytes: &[u8], at: usize, separator: u8, values: &mut [u32]) -> LineRead
+// The bytes that the line at a place takes, of as many fields as there are words for their values. Where it is ill-formed, the values of
+// the fields before the fault are written.
+pub fn line_at(bytes: &[u8], at: usize, separator: u8, values: &mut [u32]) -> Option<usize>
     requires at_in_bounds { at ≤ length bytes.now }
     requires in_bounds { 1 ≤ length values.old }
     ensures answer { result ≡ line_taken (line separator (length values.old) (drop at bytes.now)) }
@@ -41,17 +41,13 @@ pub fn line_at(bytes: &[u8], at: usize, separator: u8, values: &mut [u32]) -> Li
 {
     let count = values.len();
     let mut next = at;
-    let mut i = 0;
-    while i < count {
+    for i in 0..count {
         let end = end_of(i, count, separator);
-        let Field::Value { value, taken } = field_at(bytes, next, end) else {
-            return LineRead::Missing;
-        };
-        values[i] = value;
-        next += taken;
-        i += 1;
+        let field = field_at(bytes, next, end)?;
+        values[i] = field.value;
+        next += field.taken;
     }
-    LineRead::Taken { taken: next - at }
+    Some(next - at)
 }
 
 // What ends field i of so many.
@@ -67,20 +63,19 @@ fn digits_at(bytes: &[u8], at: usize) -> Digits
     requires { at ≤ length bytes.now }
     ensures { DigitsRead (drop at bytes.now) result.count result.value }
 {
-    let mut count = 0;
     let mut value = 0;
-    loop {
+    for count in 0..8 {
         let byte = byte_at(bytes, at + count);
-        if (count == 8) | !is_digit(byte) {
+        if !is_digit(byte) {
             return Digits { count, value };
         }
         value = 10 * value + (byte - 48);
-        count += 1;
     }
+    Digits { count: 8, value }
 }
 
 fn is_digit(byte: u32) -> bool
-    ensures { result ≡ is_digit_lem byte }
+    ensures { result ≡ is_digit byte }
 {
     (byte >= 48) & (byte <= 57)
 }

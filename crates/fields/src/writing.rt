@@ -68,10 +68,8 @@ pub fn put_bytes(buffer: &mut [u8], at: usize, bytes: &[u8]) -> usize
     ensures { Writes at bytes.now buffer.old buffer.new result }
 {
     let mut next = at;
-    let mut i = 0;
-    while i < bytes.len() {
-        next = put_byte(buffer, next, bytes[i]);
-        i += 1;
+    for byte in bytes {
+        next = put_byte(buffer, next, *byte);
     }
     next
 }

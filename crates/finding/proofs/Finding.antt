@@ -1,17 +1,16 @@
 -- The tests of buckets and of segments, one after the other, end at the lowest that is not empty.
 use Prim.Native.Nat.{ℕ, suc, ◌+◌, ◌-◌, ◌*◌, ◌≤◌, ◌<◌}
 use native.Mathlib.Omega.{arith}
-use mathlib.Core.Path.{◌≡◌, refl, ap, subst}
-use mathlib.Core.Bool.{Bool, true, false, not}
+use mathlib.Core.Path.{◌≡◌, refl, ap}
+use mathlib.Core.Bool.{Bool, true, false}
 use mathlib.Core.Logic.{inl, inr}
 use mathlib.Core.List.{List}
 use lib.ListN.{get_or}
 use Rattle.theory.proofs.Cases.{split, differ}
 use Rattle.buckets.specs.Words.{places, place_bucket, slot_bucket, bucket_count}
 use Rattle.buckets.specs.Words.Laws.{bucket_count_lem, bucket_range}
-use Rattle.buckets.specs.Answer.{InSlot, InBucket, Some, None, EmptyBucket, FirstIn}
-use Rattle.buckets.specs.declared.Found.{Found}
-use Rattle.buckets.specs.declared.Found.TheVariants.{At, Nothing}
+use Rattle.buckets.specs.Answer.{InSlot, InBucket, SomeNode, NoNode, EmptyBucket, FirstIn}
+use Rattle.std.specs.Prelude.{Option, Some, None, is_some}
 use Rattle.model.specs.declared.Node.{Node}
 use Rattle.buckets.specs.Links.Laws.{held_bucket, bucket_slot}
 use Rattle.state.specs.declared.Layout.{Layout}
@@ -24,10 +23,10 @@ use Rattle.finding.specs.Finding.{Holds, LowestBucket, InBucketSome, LowestSegme
 pub record From (Within : ℕ → ℕ → Type 0) (last i : ℕ) : Type 0 where
   pub low : 1 ≤ i
   pub lower : (m w : ℕ) → 1 ≤ m → m < i → Within m w → ⊥
-  pub held : Some (Within last)
+  pub held : SomeNode (Within last)
   pub high : i ≤ last
 
-from_next : {Within : ℕ → ℕ → Type 0} {last i : ℕ} → From Within last i → None (Within i) → From Within last (i + 1)
+from_next : {Within : ℕ → ℕ → Type 0} {last i : ℕ} → From Within last i → NoNode (Within i) → From Within last (i + 1)
 from_next {last = last} {i} F none = record {
   low = omega arith;
   lower = λ m w l k h. elim (split m i) [ inl j ↦ F.lower m w l j h | inr j ↦ let e : m ≡ i = omega arith in none w (rw e at h) ];
@@ -46,7 +45,7 @@ pub record Above (n : ℕ) (words : List ℕ) (bucket : ℕ) : Type 0 where
   pub from : From (λ b. InBucket n b words) top bucket
   pub few : top ≤ 22
 
-pub above_next : {n bucket : ℕ} {words : List ℕ} → Above n words bucket → (r : Bool) → EmptyBucket n bucket words r → not r ≡ false → Above n words (bucket + 1) × (22 - (bucket + 1) < 22 - bucket)
+pub above_next : {n bucket : ℕ} {words : List ℕ} → Above n words bucket → (r : Bool) → EmptyBucket n bucket words r → r ≡ true → Above n words (bucket + 1) × (22 - (bucket + 1) < 22 - bucket)
 above_next A false some e = differ (cc)
 above_next A true none e = let F = from_next A.from none in (record { top = A.top; from = F; few = A.few }, omega (arith, F.high, A.few))
 
@@ -74,7 +73,7 @@ module _ {layout : Layout} {words : List ℕ} (H : Holds layout words) where
         let F = A.from in
         (F.low, omega (arith, F.high, in_range A.top F.held.node (omega (arith, F.low, F.high)) F.held.holds, count_is))
 
-    pub above_end : (r : Bool) → EmptyBucket layout.nodes bucket words r → not r ≡ true → LowestBucket layout words bucket
+    pub above_end : (r : Bool) → EmptyBucket layout.nodes bucket words r → r ≡ false → LowestBucket layout words bucket
     above_end true none e = differ (cc)
     above_end false some e = record { low = A.from.low; high = in_range bucket some.node A.from.low some.holds; some = some; lower = A.from.lower }
 
@@ -87,16 +86,18 @@ pub record Past (n slots K : ℕ) (words : List ℕ) (bucket k : ℕ) : Type 0 w
   pub most : last ≤ K
   pub below : slot_of K bucket last < slots
 
-pub past_next : {n slots K bucket k : ℕ} {words : List ℕ} → Past n slots K words bucket k → None (InSlot n K (slot_of K bucket k) words)
+pub past_next : {n slots K bucket k : ℕ} {words : List ℕ} → Past n slots K words bucket k → NoNode (InSlot n K (slot_of K bucket k) words)
     → Past n slots K words bucket (k + 1) × (K - (k + 1) < K - k)
 past_next P none = let F = from_next P.from none in (record { last = P.last; from = F; most = P.most; below = P.below }, omega (arith, F.high, P.most))
 
 -- What the test of a slot says.
-pub past_empty : (n K slot : ℕ) (words : List ℕ) (f : Found) → FirstIn n K slot words f → f ≡ Nothing → None (InSlot n K slot words)
-past_empty n K slot words f first e = subst (λ (f : Found). FirstIn n K slot words f) e first
+pub past_none : (n K slot : ℕ) (words : List ℕ) (f : Option Node) → FirstIn n K slot words f → is_some f ≡ false → NoNode (InSlot n K slot words)
+past_none n K slot words (Some v) first e = differ (cc)
+past_none n K slot words None first e = first
 
-pub past_held : (n K slot : ℕ) (words : List ℕ) (f : Found) {v : Node} → FirstIn n K slot words f → f ≡ At v → InSlot n K slot words v.0
-past_held n K slot words f first e = subst (λ (f : Found). FirstIn n K slot words f) e first
+pub past_some : (n K slot : ℕ) (words : List ℕ) (f : Option Node) → FirstIn n K slot words f → is_some f ≡ true → SomeNode (InSlot n K slot words)
+past_some n K slot words (Some v) first e = record { node = v.0; holds = first }
+past_some n K slot words None first e = differ (cc)
 
 pub past_below : {n slots K bucket k : ℕ} {words : List ℕ} → Past n slots K words bucket k → slot_of K bucket k < slots
 past_below P = omega (arith, P.from.low, P.from.high, P.below)
@@ -130,8 +131,8 @@ module _ {layout : Layout} {words : List ℕ} {bucket : ℕ} (H : InBucketSome l
     pub past_few : (bucket - 1) * K + (k - 1) < 512
     past_few = omega (arith, past_below P, H.frontier.linked.fits.few)
 
-    pub past_end : (w : ℕ) → InSlot layout.nodes K (slot_of K bucket k) words w → LowestSegment layout words bucket k
-    past_end w i = record {
+    pub past_end : SomeNode (InSlot layout.nodes K (slot_of K bucket k) words) → LowestSegment layout words bucket k
+    past_end some = record {
       slot = record {
         first = H.low;
         last = H.high;
@@ -139,6 +140,6 @@ module _ {layout : Layout} {words : List ℕ} {bucket : ℕ} (H : InBucketSome l
         high = omega (arith, P.from.high, P.most);
         whole = λ e. let m : (bucket - 1) * K ≡ (layout.buckets - 1) * K = ap (λ (b : ℕ). (b - 1) * K) e in omega (arith, P.from.low, past_below P, H.slots);
       };
-      some = record { node = w; holds = i };
+      some = some;
       earlier = P.from.lower;
     }

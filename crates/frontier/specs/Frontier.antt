@@ -1,13 +1,12 @@
 -- The labelled nodes in lent words, of which those at the current key are bits and the others stand in the lists of their slots.
 -- Callers see `Frontier`, of which they use `linked`, and the place words; `Laws` below has what proofs cite.
 pub mod Laws
-use Rattle.std.specs.Prelude.{ℕ, ◌+◌, ◌*◌, ◌≤◌, ◌<◌, ◌≡◌, List, length, get_or, set, drop}
+use Rattle.std.specs.Prelude.{ℕ, ◌+◌, ◌*◌, ◌≤◌, ◌<◌, ◌≡◌, List, length, get_or, set, drop, Option, Some, None}
 use Rattle.bits.specs.Sets.{BitSet, In}
 use Rattle.buckets.specs.Words.{places}
 use Rattle.buckets.specs.Links.{Linked}
-use Rattle.buckets.specs.Answer.{InSlot, None}
-use Rattle.buckets.specs.declared.Found.{Found}
-use Rattle.buckets.specs.declared.Found.TheVariants.{At, Nothing}
+use Rattle.buckets.specs.Answer.{InSlot, NoNode}
+use Rattle.model.specs.declared.Node.{Node}
 
 -- The lists and the bits are in order, and the bits are the nodes with place word 1: the labelled nodes at the key that was scanned
 -- last (document 01, "The search": of smallest number among equals).
@@ -41,6 +40,6 @@ pub record FirstCurrent (n slots segments : ℕ) (w w' : List ℕ) (v : ℕ) : T
 
 -- What was found is a node of the slot, which is unlabelled in the words then, and nothing only if there is none (document 01, "Two-level
 -- heap").
-abbrev pub FirstLeft : (n slots segments slot : ℕ) → (w w' : List ℕ) → Found → Type 0
-FirstLeft n slots segments slot w w' (At v) = InSlot n segments slot w v.0 × Placed n slots segments w w' v.0 0
-FirstLeft n slots segments slot w w' Nothing = None (InSlot n segments slot w) × (w' ≡ w)
+abbrev pub FirstLeft : (n slots segments slot : ℕ) → (w w' : List ℕ) → Option Node → Type 0
+FirstLeft n slots segments slot w w' (Some v) = InSlot n segments slot w v.0 × Placed n slots segments w w' v.0 0
+FirstLeft n slots segments slot w w' None = NoNode (InSlot n segments slot w) × (w' ≡ w)

@@ -12,7 +12,6 @@ ghost use Rattle.std.specs.Prelude.{◌≡◌, ◌*◌, ◌%◌, ◌<◌, ◌≤
 ghost use Rattle.buckets.specs.Words.{places, place_word, place_bucket, place_slot, slot_bucket, Held};
 ghost use Rattle.frontier.specs.Frontier.{Frontier, Placed, Current, FirstCurrent, FirstLeft};
 
-use buckets::Found;
 use model::Node;
 
 // The place word of v.
@@ -115,7 +114,7 @@ pub fn take_first(
     segments: usize,
     bucket: usize,
     slot: usize,
-) -> Found
+) -> Option<Node>
     requires frontier { Frontier n slots segments words.old }
     requires slot_lt_slots { (slot < slots) × (bucket ≡ slot_bucket segments slot) }
     ensures { FirstLeft n slots segments slot words.old words.new result }

@@ -7,7 +7,7 @@ use native.Mathlib.Omega.{arith}
 use lib.ListN.{length, get_or, take, replicate, length-append}
 use lib.Seq.{length-take-le, get_or-take, append_snoc, take-suc}
 use borrow.Author.Tests.{eq-eqb, ne_eqb}
-use Rattle.model.specs.declared.Check.TheVariants.{Passed}
+use Rattle.std.specs.Prelude.{Ok}
 use Rattle.model.specs.Answers.{words_after}
 use Rattle.theory.specs.Maps.{none}
 use Rattle.theory.proofs.Cases.{same?}
@@ -125,7 +125,7 @@ module _ (v distance : ℕ) (nodes : List ℕ) where
   unfolding words_if_reached
   unreached_words words e = rw (eq-eqb distance none e)
 
-  pub reached_words : (words : List ℕ) → (distance ≡ none → ⊥) → words_after Passed nodes words ≡ words_if_reached distance nodes words
+  pub reached_words : (words : List ℕ) → (distance ≡ none → ⊥) → words_after (Ok tt) nodes words ≡ words_if_reached distance nodes words
   unfolding words_if_reached
   reached_words words q = rw (ne_eqb distance none q)
 

@@ -5,18 +5,19 @@ use mathlib.Core.Path.{◌≡◌, refl, sym, ◌∙◌, ap, ap₂, subst}
 use mathlib.Core.Logic.{inl, inr}
 use mathlib.Core.List.{List, ◌++◌}
 use lib.ListN.{length, get_or, drop, length-append, get_or-append}
-use Rattle.model.specs.declared.Check.{Check}
-use Rattle.model.specs.declared.Check.TheVariants.{Passed}
-use Rattle.model.specs.declared.RunAnswer.{RunAnswer}
+use Rattle.model.specs.Answers.{Check, RunAnswer}
+use Rattle.std.specs.Prelude.{Ok}
 use Rattle.theory.specs.Maps.{none}
 use Rattle.theory.specs.Heap.{Heap}
-use Rattle.theory.specs.Runs.{Inputs, ValidInputs, one, steps_of}
+use Rattle.theory.specs.Runs.{Inputs, ValidInputs, steps_of}
+use Rattle.theory.specs.declared.Levels.TheVariants.{One}
 use Rattle.theory.proofs.Cases.{same?}
 use Rattle.checks.specs.Checks.{first_fault, run_checks}
 use Rattle.checks.proofs.Valid.{passed_ready}
 use Rattle.runs.specs.Promise.{Lent, lengths_of, Ran, OneLevelPromised}
 use Rattle.fields.specs.Writing.{Writes}
 use Rattle.fields.proofs.Written.{writes_same}
+use Rattle.reader.specs.declared.PlanHeader.{PlanHeader}
 use Rattle.planning.specs.Planning.{PlanLists, lent_of, map_inputs, MapRunnable}
 use Rattle.itineraries.specs.Itineraries.{line_if_reached, route_lines, nodes_to, run_route, run_lines, words_if_reached, route_fields, run_fields, AllRoutable, RunListed}
 use Rattle.itineraries.proofs.Lines.{unreached_line, unreached_words}
@@ -56,19 +57,19 @@ module _ (distances distances' : List ℕ) (routes routes' : ℕ → List ℕ) w
 
 -- ---- a run that is accepted
 
-module _ (I : Inputs) (l l' : Lent) {r : RunAnswer} (passed : first_fault (run_checks one I (lengths_of l)) ≡ Passed) (P : OneLevelPromised I r l l') where
+module _ (I : Inputs) (l l' : Lent) {r : RunAnswer} (passed : first_fault (run_checks One I (lengths_of l)) ≡ Ok tt) (P : OneLevelPromised I r l l') where
   abbrev n : ℕ
   n = I.map.nodes
 
   abbrev run : Heap
-  run = steps_of one I
+  run = steps_of One I
 
   -- the nodes of each route by the parents that are lent
   abbrev lent_route : ℕ → List ℕ
   lent_route = nodes_to n I.source I.map.starts I.map.heads l'.parents
 
-  pub ran : Ran one I Passed r l l'
-  ran = subst (λ (k : Check). Ran one I k r l l') passed P
+  pub ran : Ran One I (Ok tt) r l l'
+  ran = subst (λ (k : Check). Ran One I k r l l') passed P
 
   valid : ValidInputs I
   valid = (passed_ready passed).valid
@@ -107,17 +108,17 @@ module _ (I : Inputs) (l l' : Lent) {r : RunAnswer} (passed : first_fault (run_c
 
 -- ---- as the code tells it
 
-module _ {n m C source : ℕ} {l : PlanLists} (R : MapRunnable one n m C source l) where
+module _ {header : PlanHeader} {l : PlanLists} (R : MapRunnable One header l) where
   abbrev I : Inputs
-  I = map_inputs n m C source l
+  I = map_inputs header l
 
   pub run_routable : (l' : Lent) {r : RunAnswer} → OneLevelPromised I r (lent_of l) l'
-      → AllRoutable n source I.map.starts I.map.heads l'.distances l'.parents
+      → AllRoutable header.nodes header.source.0 I.map.starts I.map.heads l'.distances l'.parents
   run_routable l' P = all_routable I (lent_of l) l' R.accepted P R.nodes_fit
 
   pub run_listed : (l' : PlanLists) {r : RunAnswer} {route route' output output' : List ℕ} {written : ℕ} → OneLevelPromised I r (lent_of l) (lent_of l')
-      → Writes 0 (route_lines n l'.distances (nodes_to n source I.map.starts I.map.heads l'.parents)) output output' written
-      → route' ≡ route_fields n l'.distances (nodes_to n source I.map.starts I.map.heads l'.parents) route
+      → Writes 0 (route_lines header.nodes l'.distances (nodes_to header.nodes header.source.0 I.map.starts I.map.heads l'.parents)) output output' written
+      → route' ≡ route_fields header.nodes l'.distances (nodes_to header.nodes header.source.0 I.map.starts I.map.heads l'.parents) route
       → RunListed I l l' route route' output output' written
   run_listed l' {r} {route} P W e =
       let Q = ran I (lent_of l) (lent_of l') R.accepted P in

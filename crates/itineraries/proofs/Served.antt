@@ -7,10 +7,14 @@ use mathlib.Core.Path.{◌≡◌, refl, sym, ◌∙◌, ap₂}
 use mathlib.Core.List.{List, []}
 use lib.Dec.{ltb}
 use lib.ListN.{length, get_or}
-use Rattle.model.specs.declared.Check.TheVariants.{Passed, Fault}
+use Rattle.std.specs.Prelude.{Ok, Err}
+use Rattle.model.specs.Answers.{fault_of}
+use Rattle.model.specs.declared.Kind.TheVariants.{InputSize}
+use Rattle.model.specs.declared.Fault.{Fault}
 use Rattle.theory.specs.Maps.{none, Map, Reached, distance_of}
 use Rattle.theory.specs.Heap.{Heap}
-use Rattle.theory.specs.Runs.{Inputs, ValidInputs, one, steps_of}
+use Rattle.theory.specs.Runs.{Inputs, ValidInputs, steps_of}
+use Rattle.theory.specs.declared.Levels.TheVariants.{One}
 use Rattle.theory.specs.Demands.{CheapestRoutes}
 use Rattle.theory.proofs.Cases.{differ}
 use Rattle.theory.proofs.Demands.{run_demanded}
@@ -25,20 +29,20 @@ use Rattle.itineraries.specs.Itineraries.{route_line, line_if_reached, run_route
 use Rattle.itineraries.proofs.Lines.{unreached_line, reached_line}
 use Rattle.itineraries.proofs.Reaching.{reached_served}
 
-passed_read : (bytes : List ℕ) → planning_check bytes ≡ Passed → plan_check bytes 513 2048 2048 512 ≡ Passed
+passed_read : (bytes : List ℕ) → planning_check bytes ≡ Ok tt → plan_check bytes 513 2048 2048 512 ≡ Ok tt
 unfolding planning_check
 passed_read bytes e = go (ltb most_bytes (length bytes)) e
   where
-    go : (t : Bool) → cond t (Fault 13 0) (plan_check bytes 513 2048 2048 512) ≡ Passed → plan_check bytes 513 2048 2048 512 ≡ Passed
+    go : (t : Bool) → cond t (Err (fault_of InputSize 0)) (plan_check bytes 513 2048 2048 512) ≡ Ok tt → plan_check bytes 513 2048 2048 512 ≡ Ok tt
     go true f = differ (cc)
     go false f = f
 
 -- A file that is turned down has the line that `plan` prints for it.
-pub refused_same : (bytes : List ℕ) {number place : ℕ} → planning_check bytes ≡ Fault number place → routes_text bytes ≡ plan_text_lem bytes
+pub refused_same : (bytes : List ℕ) {fault : Fault} → planning_check bytes ≡ Err fault → routes_text bytes ≡ plan_text_lem bytes
 unfolding routes_text plan_text_lem
 refused_same bytes e = rw e refl
 
-module _ (bytes : List ℕ) (accepted : planning_check bytes ≡ Passed) where
+module _ (bytes : List ℕ) (accepted : planning_check bytes ≡ Ok tt) where
   abbrev I : Inputs
   I = plan_run (plan_of bytes)
 
@@ -46,13 +50,13 @@ module _ (bytes : List ℕ) (accepted : planning_check bytes ≡ Passed) where
   M = I.map
 
   abbrev run : Heap
-  run = steps_of one I
+  run = steps_of One I
 
   valid : ValidInputs I
   valid = (read_runnable bytes 513 2048 2048 512 (passed_read bytes accepted)).valid
 
   cheapest : CheapestRoutes M I.source run.search.distances run.search.parents
-  cheapest = (run_demanded valid one tt).cheapest
+  cheapest = (run_demanded valid One tt).cheapest
 
   abbrev distance : ℕ → ℕ
   distance v = get_or run.search.distances v 0

@@ -1,11 +1,10 @@
 -- What `routes` prints for every input, and what it leaves in the lists that it lends. The text is ours; its parts are those of document 01,
 -- "Routes" and "Planning file".
-use Rattle.std.specs.Prelude.{ℕ, zero, suc, ◌≤◌, ◌<◌, cond, ◌≡◌, List, [], ◌∷◌, ◌++◌, eqb, length, get_or}
-use Rattle.model.specs.declared.Check.{Check}
-use Rattle.model.specs.declared.Check.TheVariants.{Passed, Fault}
-use Rattle.model.specs.Answers.{words_after}
+use Rattle.std.specs.Prelude.{ℕ, zero, suc, ◌≤◌, ◌<◌, cond, ◌≡◌, List, [], ◌∷◌, ◌++◌, eqb, length, get_or, Ok, Err}
+use Rattle.model.specs.Answers.{Check, words_after}
 use Rattle.theory.specs.Maps.{none, Map, Route, route_cost}
-use Rattle.theory.specs.Runs.{Inputs, one, steps_of}
+use Rattle.theory.specs.Runs.{Inputs, steps_of}
+use Rattle.theory.specs.declared.Levels.TheVariants.{One}
 use Rattle.checks.specs.Checks.{first_fault}
 use Rattle.walk.specs.Walk.{nodes_of, nodes_along}
 use Rattle.route.specs.Routes.{route_walk, route_checks}
@@ -37,16 +36,16 @@ nodes_to n source starts heads parents v = nodes_of (route_walk n source starts 
 
 -- The nodes of the route to node v by the parents of the one-level run of these inputs (document 01, "Routes" and "One-level heap").
 abbrev pub run_route : Inputs → (v : ℕ) → List ℕ
-run_route I = nodes_to I.map.nodes I.source I.map.starts I.map.heads (steps_of one I).search.parents
+run_route I = nodes_to I.map.nodes I.source I.map.starts I.map.heads (steps_of One I).search.parents
 
 -- The lines of the one-level run of these inputs (document 01, "Routes" and "Planning file").
 abbrev pub run_lines : Inputs → List ℕ
-run_lines I = route_lines I.map.nodes (steps_of one I).search.distances (run_route I)
+run_lines I = route_lines I.map.nodes (steps_of One I).search.distances (run_route I)
 
 -- The text for a file that tells `plan` and whose checks come to `check` (document 01, "Routes" and "Planning file").
 abbrev pub checked_routes : Check → Plan → List ℕ
-checked_routes Passed plan = run_lines (plan_run plan)
-checked_routes (Fault number place) plan = refused_text number place
+checked_routes (Ok tt) plan = run_lines (plan_run plan)
+checked_routes (Err fault) plan = refused_text fault
 
 -- What `routes` prints (document 01, "Routes" and "Planning file").
 unfoldable pub routes_text : (bytes : List ℕ) → List ℕ
@@ -57,7 +56,7 @@ routes_text bytes = checked_routes (planning_check bytes) (plan_of bytes)
 -- The route list with the nodes of a route at its front; for a node that is not reached it stays (document 01, "Routes": words past the
 -- route are untouched).
 unfoldable pub words_if_reached : (distance : ℕ) → (nodes words : List ℕ) → List ℕ
-words_if_reached distance nodes words = cond (eqb distance none) words (words_after Passed nodes words)
+words_if_reached distance nodes words = cond (eqb distance none) words (words_after (Ok tt) nodes words)
 
 -- The route list behind the routes of the first nodes, each written over those before it (document 01, "Routes").
 unfoldable pub route_fields : (count : ℕ) → (distances : List ℕ) → (routes : ℕ → List ℕ) → (words : List ℕ) → List ℕ
@@ -66,17 +65,17 @@ route_fields (suc v) distances routes words = words_if_reached (get_or distances
 
 -- The route list behind the routes of the one-level run of these inputs (document 01, "Routes").
 abbrev pub run_fields : Inputs → (words : List ℕ) → List ℕ
-run_fields I words = route_fields I.map.nodes (steps_of one I).search.distances (run_route I) words
+run_fields I words = route_fields I.map.nodes (steps_of One I).search.distances (run_route I) words
 
 -- The route list afterwards; a refusal leaves all words (document 01, "What a call returns").
 abbrev pub checked_words : Check → Plan → (words : List ℕ) → List ℕ
-checked_words Passed plan words = run_fields (plan_run plan) words
-checked_words (Fault number place) plan words = words
+checked_words (Ok tt) plan words = run_fields (plan_run plan) words
+checked_words (Err fault) plan words = words
 
 -- The text is written, and the lists hold the map, what the one-level run leaves, and the routes (document 01, "Planning file" and "Routes").
 pub record Listed (check : Check) (plan : Plan) (l l' : PlanLists) (route route' output output' : List ℕ) (bytes : ℕ) : Type 0 where
   pub text : Writes 0 (checked_routes check plan) output output' bytes
-  pub lists : ListsLeft check plan one l l'
+  pub lists : ListsLeft check plan One l l'
   pub route_after : route' ≡ checked_words check plan route
 
 -- From bytes to bytes, for every input (document 01, "Planning file" and "What a call returns").
@@ -115,7 +114,7 @@ pub record Few (nodes : List ℕ) : Type 0 where
 pub record Routable (n source : ℕ) (starts heads parents : List ℕ) (v : ℕ) : Type 0 where
   pub node : v < 1000
   pub some : 1 ≤ length (nodes_to n source starts heads parents v)
-  pub accepted : first_fault (route_checks n source starts heads parents v 512) ≡ Passed
+  pub accepted : first_fault (route_checks n source starts heads parents v 512) ≡ Ok tt
   pub few : Few (nodes_to n source starts heads parents v)
 
 -- Every node with a distance has such a route (document 01, "Routes").
@@ -134,5 +133,5 @@ pub record ListLends (l : PlanLists) (route output : List ℕ) : Type 0 where
 -- The one-level run of these inputs is made, and its routes are written (document 01, "Routes" and "One-level heap").
 pub record RunListed (I : Inputs) (l l' : PlanLists) (route route' output output' : List ℕ) (written : ℕ) : Type 0 where
   pub text : Writes 0 (run_lines I) output output' written
-  pub left : RunLeft Passed one I (lent_of l) (lent_of l')
+  pub left : RunLeft (Ok tt) One I (lent_of l) (lent_of l')
   pub route_after : route' ≡ run_fields I route

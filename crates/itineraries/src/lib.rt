@@ -4,16 +4,15 @@
 
 ghost use Rattle.std.specs.Prelude.{◌≡◌, ◌+◌, ◌*◌, ◌≤◌, ◌<◌, length};
 ghost use Rattle.theory.specs.Maps.{none};
-ghost use Rattle.theory.specs.Runs.{one};
+ghost use Rattle.theory.specs.declared.Levels.TheVariants.{One};
 ghost use Rattle.fields.specs.Writing.{Writes};
 ghost use Rattle.planning.specs.Planning.{plan_lists, map_inputs, MapRunnable};
-ghost use Rattle.itineraries.specs.Itineraries.{route_line, line_if_reached, route_lines, nodes_to, words_if_reached, route_fields, behind_commas};
-ghost use Rattle.itineraries.specs.Itineraries.{line_bytes, Few, Routable, AllRoutable, ListLends, RunListed, ItinerariesPromised};
+ghost use Rattle.itineraries.specs.Itineraries.{route_line, line_if_reached, route_lines, nodes_to, words_if_reached, route_fields, behind_commas, line_bytes, Few, Routable, AllRoutable, ListLends, RunListed, ItinerariesPromised};
 
 use fields::writing::{put_byte, put_field, put_number};
-use model::Node;
-use reader::PlanAnswer;
-use route::RouteAnswer;
+use model::{Fault, Kind, Node};
+use reader::PlanHeader;
+use theory::Levels;
 
 // The nodes of a route, each behind a comma.
 fn put_nodes(output: &mut [u8], at: usize, nodes: &[u32]) -> usize
@@ -22,11 +21,9 @@ fn put_nodes(output: &mut [u8], at: usize, nodes: &[u32]) -> usize
     ensures { Writes at (behind_commas nodes.now) output.old output.new result }
 {
     let mut next = at;
-    let mut i = 0;
-    while i < nodes.len() {
+    for node in nodes {
         let number = put_byte(output, next, b',');
-        next = put_number(output, number, nodes[i] as u64);
-        i += 1;
+        next = put_number(output, number, *node as u64);
     }
     next
 }
@@ -69,11 +66,8 @@ fn write_route(
         return at;
     }
     match route::route(n, source, starts, heads, parents, v, route) {
-        RouteAnswer::Found { nodes } => write_line(output, at, v, distance, &route[..nodes]),
-        RouteAnswer::Refused {
-            number: _,
-            place: _,
-        } => at,
+        Ok(nodes) => write_line(output, at, v, distance, &route[..nodes]),
+        Err(_) => at,
     }
 }
 
@@ -98,8 +92,7 @@ fn write_routes(
         ≡ route_fields n distances.now (nodes_to n source.0 starts.now heads.now parents.now) route.old }
 {
     let mut next = 0;
-    let mut v = 0;
-    while v < n {
+    for v in 0..n {
         let distance = distances[v as usize];
         next = write_route(
             n,
@@ -113,17 +106,13 @@ fn write_routes(
             output,
             next,
         );
-        v += 1;
     }
     next
 }
 
-// The one-level run of the map in the lists, and the lines of its routes. No refusal of the run can come.
+// The one-level run of the map in the lists, and the lines of its routes. A run's refusal would be told, though none can come.
 fn list_map(
-    nodes: u32,
-    arcs: u32,
-    ceiling: u32,
-    source: Node,
+    header: PlanHeader,
     starts: &[u32],
     heads: &[u32],
     costs: &[u32],
@@ -135,29 +124,49 @@ fn list_map(
     route: &mut [u32],
     output: &mut [u8],
 ) -> usize
-    requires map_runnable { MapRunnable one nodes arcs ceiling source.0
+    requires map_runnable { MapRunnable One header
         (plan_lists starts.now heads.now costs.now holds.now distances.old parents.old roster.old work.old) }
     requires route_len { (length route.old ≡ 512) × (length output.old ≡ 1056800) }
     ensures { RunListed
-        (map_inputs nodes arcs ceiling source.0
+        (map_inputs header
         (plan_lists starts.now heads.now costs.now holds.now distances.old parents.old roster.old work.old))
         (plan_lists starts.now heads.now costs.now holds.now distances.old parents.old roster.old work.old)
         (plan_lists starts.now heads.now costs.now holds.now distances.new parents.new roster.new work.new)
         route.old route.new output.old output.new result }
 {
-    let n = nodes as usize;
-    let m = arcs as usize;
+    let n = header.nodes as usize;
+    let m = header.arcs as usize;
     let map_starts = &starts[..n + 1];
     let map_heads = &heads[..m];
     let map_costs = &costs[..m];
     let map_holds = &holds[..n];
-    runs::one_level(
-        nodes, ceiling, source, map_starts, map_heads, map_costs, map_holds, distances, parents,
-        roster, work,
+    let run = runs::run(
+        Levels::One,
+        header.nodes,
+        header.ceiling,
+        header.source,
+        map_starts,
+        map_heads,
+        map_costs,
+        map_holds,
+        distances,
+        parents,
+        roster,
+        work,
     );
-    write_routes(
-        nodes, source, map_starts, map_heads, distances, parents, route, output,
-    )
+    match run {
+        Ok(_) => write_routes(
+            header.nodes,
+            header.source,
+            map_starts,
+            map_heads,
+            distances,
+            parents,
+            route,
+            output,
+        ),
+        Err(refused) => report::write_refusal(output, refused),
+    }
 }
 
 // The lists as slices.
@@ -181,19 +190,16 @@ fn answer_in(
         route.old route.new output.old output.new result }
 {
     if bytes.len() > 65536 {
-        return report::write_refusal(output, 13, 0);
+        let long = Fault {
+            kind: Kind::InputSize,
+            place: 0,
+        };
+        return report::write_refusal(output, long);
     }
     match reader::read(bytes, starts, heads, costs, holds) {
-        PlanAnswer::Refused { number, place } => report::write_refusal(output, number, place),
-        PlanAnswer::Read {
-            nodes,
-            arcs,
-            ceiling,
-            source,
-            segments: _,
-        } => list_map(
-            nodes, arcs, ceiling, source, starts, heads, costs, holds, distances, parents, roster,
-            work, route, output,
+        Err(fault) => report::write_refusal(output, fault),
+        Ok(header) => list_map(
+            header, starts, heads, costs, holds, distances, parents, roster, work, route, output,
         ),
     }
 }

@@ -15,10 +15,8 @@ pub fn line_length(values: &[u32]) -> usize
     ensures { result ≡ length (render_line comma values.now) }
 {
     let mut total = 0;
-    let mut i = 0;
-    while i < values.len() {
-        total += decimal_length(values[i] as u64) + 1;
-        i += 1;
+    for value in values {
+        total += decimal_length(*value as u64) + 1;
     }
     total
 }
@@ -29,10 +27,8 @@ pub fn put_line(buffer: &mut [u8], at: usize, values: &[u32]) -> usize
 {
     let count = values.len();
     let mut next = at;
-    let mut i = 0;
-    while i < count {
-        next = put_ended(buffer, next, values[i] as u64, end_of(i, count, b','));
-        i += 1;
+    for (i, value) in values.iter().enumerate() {
+        next = put_ended(buffer, next, *value as u64, end_of(i, count, b','));
     }
     next
 }

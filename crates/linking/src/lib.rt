@@ -6,7 +6,6 @@ ghost use Rattle.buckets.specs.Words.{slot_bucket, place_word, place_bucket, nod
 ghost use Rattle.buckets.specs.Links.{Chains, Linked, Relinked, Moved};
 ghost use Rattle.buckets.specs.Answer.{FirstTaken};
 
-use buckets::Found;
 use model::Node;
 
 // A node comes into a bucket. Where a bucket is one slot, the slot's head word says whether it is empty, and there is no count.
@@ -129,7 +128,7 @@ pub fn take_first(
     segments: usize,
     bucket: usize,
     slot: usize,
-) -> Found
+) -> Option<Node>
     requires linked { Linked n slots segments words.old }
     requires slot_lt_slots { (slot < slots) × (bucket ≡ slot_bucket segments slot) }
     ensures { FirstTaken n slots segments slot words.old words.new result }
@@ -137,10 +136,10 @@ pub fn take_first(
     let head = 4 * n + 32 + slot;
     let first = words[head];
     if first == 0 {
-        return Found::Nothing;
+        return None;
     }
     let v = first as usize - 1;
     count_out(words, n, slots, segments, v, bucket);
     unlink(words, n, slots, segments, v, head);
-    Found::At(Node(v as u32))
+    Some(Node(v as u32))
 }

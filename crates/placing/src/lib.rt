@@ -93,10 +93,9 @@ pub fn insert_node(
     let found = bounds::bucket_of(words, n, sum, layout.buckets);
     let current = enter(words, sizes, layout, state.front, v, sum, found.bucket);
     State {
-        front: state.front,
         current: state.current + current,
-        reached: state.reached,
         tally: state.tally.inserted().read(found.reads),
+        ..state
     }
 }
 
@@ -131,20 +130,14 @@ pub fn label(
     let decreased = state.tally.decreased();
     let tally = decreased.read(held.reads);
     if stays(sizes, layout, state.front, place, sum, held) {
-        return State {
-            front: state.front,
-            current: state.current,
-            reached: state.reached,
-            tally,
-        };
+        return State { tally, ..state };
     }
     frontier::leave_slot(words, n, layout.slots, layout.segments, v);
     let current = enter(words, sizes, layout, state.front, v, sum, held.bucket);
     State {
-        front: state.front,
         current: state.current + current,
-        reached: state.reached,
         tally,
+        ..state
     }
 }
 

@@ -8,18 +8,17 @@ use native.Mathlib.Omega.{arith}
 use lib.ListN.{length, drop}
 use lib.Seq.{drop-drop}
 use borrow.Author.Tests.{lt-ltb, le-ltb}
-use Rattle.model.specs.declared.Check.{Check}
-use Rattle.model.specs.declared.Check.TheVariants.{Passed, Fault}
+use Rattle.model.specs.Answers.{Check, fault_of}
+use Rattle.std.specs.Prelude.{Ok, Err, None, Some}
+use Rattle.model.specs.declared.Kind.TheVariants.{PlanLine, Hold}
+use Rattle.model.specs.declared.Fault.{Fault}
 use Rattle.check_numbers.specs.Numbers.{fault_if}
 use Rattle.checks.specs.Checks.{first_fault}
 use Rattle.checks.proofs.Order.{one, stopped, gone_on}
-use Rattle.plan_lines.specs.declared.ArcLine.TheVariants.{NoArc, ArcRead}
-use Rattle.plan_lines.specs.declared.HoldLine.TheVariants.{NoHold, HoldRead}
 use Rattle.plan_lines.specs.Lines.{arc_line, hold_line}
 use Rattle.plan_lines.specs.Told.{lines_taken}
 use Rattle.plan_lines.proofs.Reach.{Reached, reached_start, reached_next, reached_end}
 use Rattle.plan_lines.proofs.Fields.{arc_line_lem, hold_line_lem}
-use Rattle.plan_checks.specs.declared.LinesEnd.TheVariants.{LinesPassed}
 use Rattle.plan_checks.specs.Checking.{arc_checks, arcs_check, hold_check, hold_lines_check, lines_end_of}
 
 -- ---- the arcs' lines after i of them
@@ -36,13 +35,13 @@ module _ {n C m : ℕ} {bytes : List ℕ} {from at i before : ℕ} (c : Checked 
   abbrev ends : Check → Type 0
   ends found = lines_end_of found (from + lines_taken 3 m (drop from bytes)) ≡ lines_end_of (arcs_check n C m 0 0 (drop from bytes)) (from + lines_taken 3 m (drop from bytes))
 
-  pub line_missing : i < m → arc_line (drop at bytes) ≡ NoArc → ends (Fault 11 (i + 2))
+  pub line_missing : i < m → arc_line (drop at bytes) ≡ None → ends (Err (fault_of PlanLine (i + 2)))
   unfolding arcs_check
   line_missing l e =
       let left : m - i ≡ suc (m - suc i) = omega arith in
       rw (c.same, left, e)
 
-  module _ {tail head cost taken : ℕ} (l : i < m) (e : arc_line (drop at bytes) ≡ ArcRead tail head cost taken) where
+  module _ {tail head cost taken : ℕ} (l : i < m) (e : arc_line (drop at bytes) ≡ Some (record { tail = tail; head = head; cost = cost; taken = taken })) where
     split : arcs_check n C m 0 0 (drop from bytes)
         ≡ first_fault (arc_checks n C i before tail head cost ++ (arcs_check n C (m - suc i) (suc i) tail (drop taken (drop at bytes)) ∷ []))
     unfolding arcs_check
@@ -50,11 +49,11 @@ module _ {n C m : ℕ} {bytes : List ℕ} {from at i before : ℕ} (c : Checked 
         let left : m - i ≡ suc (m - suc i) = omega arith in
         c.same ∙ rw (left, e)
 
-    pub arc_fails_lem : {number place : ℕ} → Fault number place ≡ first_fault (arc_checks n C i before tail head cost) → ends (Fault number place)
+    pub arc_fails_lem : {fault : Fault} → Err fault ≡ first_fault (arc_checks n C i before tail head cost) → ends (Err fault)
     arc_fails_lem f = ap (λ (found : Check). lines_end_of found (from + lines_taken 3 m (drop from bytes)))
         (stopped (arc_checks n C i before tail head cost) _ f refl ∙ sym split)
 
-    pub checked_next : first_fault (arc_checks n C i before tail head cost) ≡ Passed → Checked n C m bytes from (at + taken) (i + 1) tail
+    pub checked_next : first_fault (arc_checks n C i before tail head cost) ≡ Ok tt → Checked n C m bytes from (at + taken) (i + 1) tail
     checked_next f = record {
       reached = reached_next c.reached l (arc_line_lem (drop at bytes) e);
       same = rw add-one
@@ -63,11 +62,11 @@ module _ {n C m : ℕ} {bytes : List ℕ} {from at i before : ℕ} (c : Checked 
           ∙ ap (arcs_check n C (m - suc i) (suc i) tail) (drop-drop taken at bytes));
     }
 
-  pub checked_end : m ≤ i → LinesPassed at ≡ lines_end_of (arcs_check n C m 0 0 (drop from bytes)) (from + lines_taken 3 m (drop from bytes))
+  pub checked_end : m ≤ i → Ok at ≡ lines_end_of (arcs_check n C m 0 0 (drop from bytes)) (from + lines_taken 3 m (drop from bytes))
   unfolding arcs_check
   checked_end l =
       let none_left : m - i ≡ 0 = omega arith in
-      let passed : arcs_check n C m 0 0 (drop from bytes) ≡ Passed = rw none_left at c.same in
+      let passed : arcs_check n C m 0 0 (drop from bytes) ≡ Ok tt = rw none_left at c.same in
       rw (passed, sym (reached_end c.reached l)) refl
 
 -- ---- the holds' lines after v of them
@@ -83,18 +82,18 @@ module _ {C m n : ℕ} {bytes : List ℕ} {from at v : ℕ} (c : HoldsChecked C 
   abbrev lines_end : Check → Type 0
   lines_end found = lines_end_of found (from + lines_taken 1 n (drop from bytes)) ≡ lines_end_of (hold_lines_check C m n 0 (drop from bytes)) (from + lines_taken 1 n (drop from bytes))
 
-  pub hold_missing : v < n → hold_line (drop at bytes) ≡ NoHold → lines_end (Fault 11 (m + 2 + v))
+  pub hold_missing : v < n → hold_line (drop at bytes) ≡ None → lines_end (Err (fault_of PlanLine (m + 2 + v)))
   unfolding hold_lines_check
   hold_missing l e =
       let left : n - v ≡ suc (n - suc v) = omega arith in
       let line : m + 2 + v ≡ m + v + 2 = omega arith in
       rw (c.same, left, e, line)
 
-  module _ {hold taken : ℕ} (l : v < n) (e : hold_line (drop at bytes) ≡ HoldRead hold taken) where
+  module _ {hold taken : ℕ} (l : v < n) (e : hold_line (drop at bytes) ≡ Some (record { hold = hold; taken = taken })) where
     left : n - v ≡ suc (n - suc v)
     left = omega arith
 
-    pub hold_fails : C < hold → lines_end (Fault 20 v)
+    pub hold_fails : C < hold → lines_end (Err (fault_of Hold v))
     unfolding hold_lines_check fault_if first_fault
     hold_fails above = rw (c.same, left, e, lt-ltb C hold above)
 
@@ -103,7 +102,7 @@ module _ {C m n : ℕ} {bytes : List ℕ} {from at v : ℕ} (c : HoldsChecked C 
     unfolding hold_lines_check
     hold_split = c.same ∙ rw (left, e)
 
-    hold_passes : hold ≤ C → first_fault (hold_check C v hold ∷ []) ≡ Passed
+    hold_passes : hold ≤ C → first_fault (hold_check C v hold ∷ []) ≡ Ok tt
     unfolding fault_if first_fault
     hold_passes low = rw (le-ltb C hold low)
 
@@ -116,9 +115,9 @@ module _ {C m n : ℕ} {bytes : List ℕ} {from at v : ℕ} (c : HoldsChecked C 
           ∙ ap (hold_lines_check C m (n - suc v) (suc v)) (drop-drop taken at bytes));
     }
 
-  pub lines_passed : n ≤ v → LinesPassed at ≡ lines_end_of (hold_lines_check C m n 0 (drop from bytes)) (from + lines_taken 1 n (drop from bytes))
+  pub lines_passed : n ≤ v → Ok at ≡ lines_end_of (hold_lines_check C m n 0 (drop from bytes)) (from + lines_taken 1 n (drop from bytes))
   unfolding hold_lines_check
   lines_passed l =
       let none_left : n - v ≡ 0 = omega arith in
-      let passed : hold_lines_check C m n 0 (drop from bytes) ≡ Passed = rw none_left at c.same in
+      let passed : hold_lines_check C m n 0 (drop from bytes) ≡ Ok tt = rw none_left at c.same in
       rw (passed, sym (reached_end c.reached l)) refl

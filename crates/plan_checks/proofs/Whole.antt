@@ -6,67 +6,64 @@ use native.Mathlib.Nat.{add-zero}
 use native.Mathlib.Omega.{arith}
 use lib.ListN.{length, get_or, drop, length-map}
 use lib.Seq.{drop-drop}
-use Rattle.model.specs.declared.Check.{Check}
-use Rattle.model.specs.declared.Check.TheVariants.{Passed, Fault}
+use Rattle.model.specs.Answers.{Check}
+use Rattle.std.specs.Prelude.{Result, Ok, Err}
+use Rattle.model.specs.declared.Fault.{Fault}
 use Rattle.theory.proofs.Cases.{differ}
 use Rattle.check_lists.specs.Lists.{NoneFalls}
 use Rattle.checks.specs.Checks.{first_fault}
+use Rattle.checks.proofs.Order.{Made}
 use Rattle.grouping.specs.Arcs.{PlanArc, tail_key}
 use Rattle.grouping.proofs.Order.{Rising, more}
 use Rattle.plan_lines.specs.Told.{lines_taken, behind_lines, behind_arcs, lines_arcs, lines_holds, node_holds}
 use Rattle.plan_sums.specs.Sums.{arc_tails, arc_sums_check, SumLines}
 use Rattle.plan_sums.proofs.Passed.{zeros_passed}
-use Rattle.plan_checks.specs.declared.LinesEnd.{LinesEnd}
-use Rattle.plan_checks.specs.declared.LinesEnd.TheVariants.{LinesPassed, LinesStopped}
 use Rattle.plan_checks.specs.Checking.{line_of, left_over_check, arcs_check, hold_lines_check, behind_checks, lines_checks, lines_end_of, ArcsPassed}
 use Rattle.plan_checks.proofs.Shown.{arcs_shown}
 use Rattle.plan_checks.proofs.Held.{holds_shown}
 
 -- ---- what lines have come to
 
-pub end_stopped : (check : Check) (behind : ℕ) {found : LinesEnd} {number place : ℕ} → found ≡ lines_end_of check behind → found ≡ LinesStopped number place
-    → check ≡ Fault number place
-end_stopped Passed behind e f = differ (cc)
-end_stopped (Fault number' place') behind {found} {number} {place} e f =
-    let same_number : number' ≡ number = cc in
-    let same_place : place' ≡ place = cc in
-    rw (same_number, same_place)
+pub end_stopped : (check : Check) (behind : ℕ) {found : Result ℕ Fault} {fault : Fault} → found ≡ lines_end_of check behind → found ≡ Err fault
+    → check ≡ Err fault
+end_stopped (Ok tt) behind e f = differ (cc)
+end_stopped (Err fault) behind e f = let same : lines_end_of (Err fault) behind ≡ Err _ = sym e ∙ f in cc
 
-pub end_passed : (check : Check) (behind : ℕ) {found : LinesEnd} {at : ℕ} → found ≡ lines_end_of check behind → found ≡ LinesPassed at
-    → (check ≡ Passed) × (at ≡ behind)
-end_passed Passed behind {found} {at} e f = let same : at ≡ behind = cc in (refl, same)
-end_passed (Fault number place) behind e f = differ (cc)
+pub end_passed : (check : Check) (behind : ℕ) {found : Result ℕ Fault} {at : ℕ} → found ≡ lines_end_of check behind → found ≡ Ok at
+    → (check ≡ Ok tt) × (at ≡ behind)
+end_passed (Ok tt) behind {found} {at} e f = let same : at ≡ behind = cc in (refl, same)
+end_passed (Err fault) behind e f = differ (cc)
 
 -- ---- the order
 
 -- the first check fails, or those behind it decide
-fails_first : (check : Check) (rest : List Check) {number place : ℕ} → check ≡ Fault number place → Fault number place ≡ first_fault (check ∷ rest)
+fails_first : (check : Check) (rest : List Check) {fault : Fault} → check ≡ Err fault → Err fault ≡ first_fault (check ∷ rest)
 unfolding first_fault
 fails_first check rest e = rw e
 
-decides : (check : Check) (rest : List Check) {found : Check} → check ≡ Passed → found ≡ first_fault rest → found ≡ first_fault (check ∷ rest)
+decides : (check : Check) (rest : List Check) {found : Check} → check ≡ Ok tt → found ≡ first_fault rest → found ≡ first_fault (check ∷ rest)
 unfolding first_fault
 decides check rest e f = rw e f
 
-last_passed : (check last : Check) → last ≡ Passed → check ≡ first_fault (check ∷ last ∷ [])
+last_passed : (check last : Check) → last ≡ Ok tt → check ≡ first_fault (check ∷ last ∷ [])
 unfolding first_fault
-last_passed Passed last e = rw e
-last_passed (Fault number place) last e = refl
+last_passed (Ok tt) last e = rw e
+last_passed (Err fault) last e = refl
 
 module _ (n m C held : ℕ) (bytes : List ℕ) (at : ℕ) where
   abbrev lines : List ℕ
   lines = drop at bytes
 
-  pub arcs_stopped : {number place : ℕ} → arcs_check n C m 0 0 lines ≡ Fault number place → Fault number place ≡ first_fault (lines_checks n m C held lines)
+  pub arcs_stopped : {fault : Fault} → arcs_check n C m 0 0 lines ≡ Err fault → Err fault ≡ first_fault (lines_checks n m C held lines)
   unfolding lines_checks
   arcs_stopped e = fails_first _ _ e
 
-  module _ (passed : arcs_check n C m 0 0 lines ≡ Passed) {behind : ℕ} (place : behind ≡ at + lines_taken 3 m lines) where
+  module _ (passed : arcs_check n C m 0 0 lines ≡ Ok tt) {behind : ℕ} (place : behind ≡ at + lines_taken 3 m lines) where
     same_bytes : drop behind bytes ≡ behind_arcs m lines
     same_bytes = ap (λ (i : ℕ). drop i bytes) place ∙ sym (drop-drop (lines_taken 3 m lines) at bytes)
 
     -- no holds are told, so no sum is above C
-    sums_pass : arc_sums_check C (lines_arcs m lines) (node_holds 0 n (behind_arcs m lines)) ≡ Passed
+    sums_pass : arc_sums_check C (lines_arcs m lines) (node_holds 0 n (behind_arcs m lines)) ≡ Ok tt
     sums_pass = zeros_passed n C (lines_arcs m lines) (arcs_shown n C m 0 0 lines passed).ranged
 
     pub plain_end : {found : Check} → held ≡ 0 → found ≡ left_over_check (m + 2) (drop behind bytes) → found ≡ first_fault (lines_checks n m C held lines)
@@ -75,7 +72,7 @@ module _ (n m C held : ℕ) (bytes : List ℕ) (at : ℕ) where
         let over : _ ≡ left_over_check (m + 0 + 2) (behind_arcs m lines) = e ∙ rw (same_bytes, add-zero m) refl in
         rw plain
         (decides (arcs_check n C m 0 0 lines) _ passed
-        (decides Passed _ refl (over ∙ last_passed (left_over_check (m + 0 + 2) (behind_arcs m lines)) _ sums_pass)))
+        (decides (Ok tt) _ refl (over ∙ last_passed (left_over_check (m + 0 + 2) (behind_arcs m lines)) _ sums_pass)))
 
     -- holds are told
     pub held_end : {found : Check} → (held ≡ 0 → ⊥) → found ≡ first_fault (behind_checks n m C 1 (lines_arcs m lines) (drop behind bytes))
@@ -113,11 +110,11 @@ module _ {n m C : ℕ} {bytes : List ℕ} {at holds_at : ℕ} (a : ArcsPassed n 
   abbrev arcs : List PlanArc
   arcs = lines_arcs m (drop at bytes)
 
-  pub holds_stopped : {number place : ℕ} → hold_lines_check C m n 0 told ≡ Fault number place → Fault number place ≡ first_fault (behind_checks n m C 1 arcs told)
+  pub holds_stopped : {fault : Fault} → hold_lines_check C m n 0 told ≡ Err fault → Err fault ≡ first_fault (behind_checks n m C 1 arcs told)
   unfolding behind_checks
   holds_stopped e = fails_first _ _ e
 
-  module _ (passed : hold_lines_check C m n 0 told ≡ Passed) {behind : ℕ} (place : behind ≡ holds_at + lines_taken 1 n told) where
+  module _ (passed : hold_lines_check C m n 0 told ≡ Ok tt) {behind : ℕ} (place : behind ≡ holds_at + lines_taken 1 n told) where
     pub sum_lines : SumLines n m C bytes at holds_at
     sum_lines =
         let shown = arcs_shown n C m 0 0 (drop at bytes) a.passed in
@@ -136,7 +133,8 @@ module _ {n m C : ℕ} {bytes : List ℕ} {at holds_at : ℕ} (a : ArcsPassed n 
     over_same = ap (λ (rest : List ℕ). left_over_check (m + n + 2) rest)
         (ap (λ (i : ℕ). drop i bytes) place ∙ sym (drop-drop (lines_taken 1 n told) holds_at bytes))
 
-    pub told_end : {found over sums : Check} → over ≡ left_over_check (m + n + 2) (drop behind bytes) → sums ≡ arc_sums_check C arcs (lines_holds n told)
-        → found ≡ first_fault (over ∷ sums ∷ []) → found ≡ first_fault (behind_checks n m C 1 arcs told)
+    pub told_end : {found : Check}
+        → Made (left_over_check (m + n + 2) (drop behind bytes) ∷ arc_sums_check C arcs (lines_holds n told) ∷ []) found
+        → found ≡ first_fault (behind_checks n m C 1 arcs told)
     unfolding behind_checks
-    told_end o s f = decides (hold_lines_check C m n 0 told) _ passed (f ∙ rw (o ∙ over_same, s) refl)
+    told_end made = decides (hold_lines_check C m n 0 told) _ passed (made.is ∙ rw over_same refl)

@@ -6,19 +6,12 @@ ghost use Rattle.checks.specs.Checks.{first_fault};
 ghost use Rattle.plan_lines.specs.Told.{lines_arcs};
 ghost use Rattle.plan_checks.specs.Checking.{left_over_check, behind_checks, lines_checks, header_checks, ArcsPassed};
 
-use checks::{file_lists_check, first_of};
+use checks::file_lists_check;
 use cursor::left_over_at;
-use model::{Check, Node};
+use model::{Fault, Kind, Node};
 
 mod arcs;
 mod holds;
-
-// What lines have come to: the place behind them, or their first fault.
-#[derive(Clone, Copy)]
-pub enum LinesEnd {
-    LinesPassed { behind: usize },
-    LinesStopped { number: u32, place: usize },
-}
 
 // What line 1 tells and the lists lent for it, then the lines behind it.
 pub fn plan_check(
@@ -34,17 +27,14 @@ pub fn plan_check(
     heads: usize,
     costs: usize,
     holds: usize,
-) -> Check
+) -> Result<(), Fault>
     requires { at ≤ length bytes.now }
     ensures { result ≡ first_fault (header_checks n arcs ceiling source.0 segments starts heads costs holds
         ++ lines_checks n arcs ceiling held (drop at bytes.now)) }
 {
-    let header = header_check(
+    header_check(
         n, arcs, ceiling, source, segments, starts, heads, costs, holds,
-    );
-    let Check::Passed = header else {
-        return header;
-    };
+    )?;
     lines_check(bytes, at, n, arcs, ceiling, held)
 }
 
@@ -58,66 +48,66 @@ fn header_check(
     heads: usize,
     costs: usize,
     holds: usize,
-) -> Check
+) -> Result<(), Fault>
     ensures { result ≡ first_fault (header_checks n arcs ceiling source.0 segments starts heads costs holds) }
 {
-    let nodes = check_numbers::nodes_check(n);
-    let count = check_numbers::head_count_check(arcs as usize);
-    let limit = check_numbers::ceiling_check(ceiling);
-    let from = check_numbers::source_check(n, source);
-    let parts = check_numbers::segments_check(segments);
-    let lists = file_lists_check(n, arcs, starts, heads, costs, holds);
-    let found = first_of(nodes, count);
-    let found = first_of(found, limit);
-    let found = first_of(found, from);
-    let found = first_of(found, parts);
-    first_of(found, lists)
+    check_numbers::nodes_check(n)?;
+    check_numbers::head_count_check(arcs as usize)?;
+    check_numbers::ceiling_check(ceiling)?;
+    check_numbers::source_check(n, source)?;
+    check_numbers::segments_check(segments)?;
+    file_lists_check(n, arcs, starts, heads, costs, holds)
 }
 
 // Where no holds are told, no sum can be above the ceiling: every cost has been held against it.
-fn lines_check(bytes: &[u8], at: usize, n: u32, arcs: u32, ceiling: u32, held: u32) -> Check
+fn lines_check(
+    bytes: &[u8],
+    at: usize,
+    n: u32,
+    arcs: u32,
+    ceiling: u32,
+    held: u32,
+) -> Result<(), Fault>
     requires { at ≤ length bytes.now }
     ensures { result ≡ first_fault (lines_checks n arcs ceiling held (drop at bytes.now)) }
 {
-    match arcs::arcs_check(bytes, at, n, arcs, ceiling) {
-        LinesEnd::LinesStopped { number, place } => Check::Fault { number, place },
-        LinesEnd::LinesPassed { behind } => {
-            if held == 0 {
-                left_over_check(bytes, behind, arcs as usize + 2)
-            } else {
-                held_check(bytes, at, behind, n, arcs, ceiling)
-            }
-        }
+    let behind = arcs::arcs_check(bytes, at, n, arcs, ceiling)?;
+    if held == 0 {
+        left_over_check(bytes, behind, arcs as usize + 2)
+    } else {
+        held_check(bytes, at, behind, n, arcs, ceiling)
     }
 }
 
 // Behind the arcs' lines, where holds are told: their lines begin at `from`. Sums are looked at only once these lines are known to be in
 // order.
-fn held_check(bytes: &[u8], at: usize, from: usize, n: u32, arcs: u32, ceiling: u32) -> Check
+fn held_check(
+    bytes: &[u8],
+    at: usize,
+    from: usize,
+    n: u32,
+    arcs: u32,
+    ceiling: u32,
+) -> Result<(), Fault>
     requires { ArcsPassed n arcs ceiling bytes.now at from }
     ensures { result ≡ first_fault (behind_checks n arcs ceiling 1 (lines_arcs arcs (drop at bytes.now)) (drop from bytes.now)) }
 {
-    match holds::hold_lines_check(bytes, from, n, arcs, ceiling) {
-        LinesEnd::LinesStopped { number, place } => Check::Fault { number, place },
-        LinesEnd::LinesPassed { behind } => {
-            let over = left_over_check(bytes, behind, arcs as usize + n as usize + 2);
-            let sums = plan_sums::arc_sums_check(bytes, at, from, n, arcs, ceiling);
-            first_of(over, sums)
-        }
-    }
+    let behind = holds::hold_lines_check(bytes, from, n, arcs, ceiling)?;
+    left_over_check(bytes, behind, arcs as usize + n as usize + 2)?;
+    plan_sums::arc_sums_check(bytes, at, from, n, arcs, ceiling)
 }
 
 // Behind the last line no byte is left.
-fn left_over_check(bytes: &[u8], at: usize, line: usize) -> Check
+fn left_over_check(bytes: &[u8], at: usize, line: usize) -> Result<(), Fault>
     requires { at ≤ length bytes.now }
     ensures { result ≡ left_over_check line (drop at bytes.now) }
 {
     if left_over_at(bytes, at) > 0 {
-        Check::Fault {
-            number: 11,
+        Err(Fault {
+            kind: Kind::PlanLine,
             place: line,
-        }
+        })
     } else {
-        Check::Passed
+        Ok(())
     }
 }

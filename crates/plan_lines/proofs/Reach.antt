@@ -7,22 +7,16 @@ use mathlib.Core.Path.{◌≡◌, refl, ◌∙◌, ap}
 use mathlib.Core.List.{List}
 use lib.ListN.{length, drop, length-drop}
 use lib.Seq.{drop-drop}
+use Rattle.std.specs.Prelude.{Option, None, Some}
 use Rattle.cursor.specs.declared.LineNumbers.{LineNumbers}
-use Rattle.cursor.specs.declared.LineNumbers.TheVariants.{NoNumbers, NumbersRead}
 use Rattle.cursor.specs.Lines.{line_numbers}
 use Rattle.cursor.proofs.LinesRead.{numbers_within}
 use Rattle.plan_lines.specs.Told.{lines_taken}
 
 -- A line of so many fields that takes so many bytes.
 pub record LineAt (width : ℕ) (bytes : List ℕ) (taken : ℕ) : Type 0 where
-  pub first : ℕ
-  pub second : ℕ
-  pub third : ℕ
-  pub fourth : ℕ
-  pub fifth : ℕ
-  pub sixth : ℕ
-  pub seventh : ℕ
-  pub read : line_numbers width bytes ≡ NumbersRead first second third fourth fifth sixth seventh taken
+  pub numbers : List ℕ
+  pub read : line_numbers width bytes ≡ Some (record { numbers = numbers; taken = taken })
 
 pub line_within : {width : ℕ} {bytes : List ℕ} {taken : ℕ} → LineAt width bytes taken → taken ≤ length bytes
 line_within {width} {bytes} line = numbers_within width bytes line.read
@@ -33,7 +27,7 @@ next_within bytes at h line = omega (arith, line_within line, length-drop at byt
 -- ---- the bytes of lines
 
 module _ (width left : ℕ) (bytes : List ℕ) where
-  pub taken_none : line_numbers width bytes ≡ NoNumbers → lines_taken width (suc left) bytes ≡ 0
+  pub taken_none : line_numbers width bytes ≡ None → lines_taken width (suc left) bytes ≡ 0
   unfolding lines_taken
   taken_none e = rw e
 
@@ -46,13 +40,12 @@ unfolding lines_taken
 taken_within width zero bytes = omega arith
 taken_within width (suc left) bytes = go (line_numbers width bytes) refl (λ taken. taken_within width left (drop taken bytes))
   where
-    go : (found : LineNumbers) → line_numbers width bytes ≡ found
+    go : (found : Option LineNumbers) → line_numbers width bytes ≡ found
         → ((taken : ℕ) → lines_taken width left (drop taken bytes) ≤ length (drop taken bytes)) → lines_taken width (suc left) bytes ≤ length bytes
-    go NoNumbers e rest = omega (arith, taken_none width left bytes e)
-    go (NumbersRead first second third fourth fifth sixth seventh taken) e rest =
-        let line : LineAt width bytes taken =
-        record { first = first; second = second; third = third; fourth = fourth; fifth = fifth; sixth = sixth; seventh = seventh; read = e } in
-        omega (arith, taken_next width left bytes line, line_within line, rest taken, length-drop taken bytes)
+    go None e rest = omega (arith, taken_none width left bytes e)
+    go (Some found) e rest =
+        let line : LineAt width bytes found.taken = record { numbers = found.numbers; read = e } in
+        omega (arith, taken_next width left bytes line, line_within line, rest found.taken, length-drop found.taken bytes)
 
 -- ---- a pass over lines
 
@@ -81,7 +74,7 @@ module _ {width count : ℕ} {bytes : List ℕ} {from at i : ℕ} (r : Reached w
             ∙ omega (arith, taken_next width (count - suc i) (drop at bytes) line, ap (lines_taken width (count - suc i)) (drop-drop taken at bytes));
       })
 
-  pub reached_stop : i < count → line_numbers width (drop at bytes) ≡ NoNumbers → at ≡ from + lines_taken width count (drop from bytes)
+  pub reached_stop : i < count → line_numbers width (drop at bytes) ≡ None → at ≡ from + lines_taken width count (drop from bytes)
   reached_stop l e =
       let left : count - i ≡ suc (count - suc i) = omega arith in
       omega (arith, r.place, ap (λ (lines : ℕ). lines_taken width lines (drop at bytes)) left, taken_none width (count - suc i) (drop at bytes) e)

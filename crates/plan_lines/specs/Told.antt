@@ -1,21 +1,18 @@
 -- What the lines behind line 1 tell, and the bytes that they take (document 01, "Planning file"; document 02, paper 2).
-use Rattle.std.specs.Prelude.{ℕ, zero, suc, ◌+◌, List, [], ◌∷◌, drop, replicate}
+use Rattle.std.specs.Prelude.{ℕ, zero, suc, ◌+◌, List, [], ◌∷◌, drop, replicate, Option, None, Some}
 use Rattle.cursor.specs.declared.LineNumbers.{LineNumbers}
-use Rattle.cursor.specs.declared.LineNumbers.TheVariants.{NoNumbers, NumbersRead}
 use Rattle.cursor.specs.Lines.{line_numbers}
 use Rattle.grouping.specs.Arcs.{PlanArc}
 use Rattle.plan_lines.specs.declared.ArcLine.{ArcLine}
-use Rattle.plan_lines.specs.declared.ArcLine.TheVariants.{NoArc, ArcRead}
 use Rattle.plan_lines.specs.declared.HoldLine.{HoldLine}
-use Rattle.plan_lines.specs.declared.HoldLine.TheVariants.{NoHold, HoldRead}
 use Rattle.plan_lines.specs.Lines.{arc_line, hold_line}
 
 -- ---- how far lines reach
 
 -- A line's bytes, and those of the lines behind it; from an ill-formed line on none are counted (document 01, "Planning file").
-abbrev pub taken_and_behind : LineNumbers → (behind : ℕ → ℕ) → ℕ
-taken_and_behind NoNumbers behind = 0
-taken_and_behind (NumbersRead first second third fourth fifth sixth seventh taken) behind = taken + behind taken
+abbrev pub taken_and_behind : Option LineNumbers → (behind : ℕ → ℕ) → ℕ
+taken_and_behind None behind = 0
+taken_and_behind (Some line) behind = line.taken + behind line.taken
 
 -- The bytes that so many lines of so many fields take (document 01, "Planning file").
 unfoldable pub lines_taken : (width left : ℕ) → List ℕ → ℕ
@@ -33,9 +30,9 @@ behind_arcs m bytes = behind_lines 3 m bytes
 -- ---- arcs
 
 -- An arc's line, and the arcs behind the bytes that it takes (document 01, "Planning file").
-abbrev pub arc_and_behind : ArcLine → (behind : ℕ → List PlanArc) → List PlanArc
-arc_and_behind NoArc behind = []
-arc_and_behind (ArcRead tail head cost taken) behind = record { tail = tail; head = head; cost = cost } ∷ behind taken
+abbrev pub arc_and_behind : Option ArcLine → (behind : ℕ → List PlanArc) → List PlanArc
+arc_and_behind None behind = []
+arc_and_behind (Some line) behind = record { tail = line.tail; head = line.head; cost = line.cost } ∷ behind line.taken
 
 -- The arcs of so many lines (document 01, "Planning file").
 unfoldable pub lines_arcs : (left : ℕ) → List ℕ → List PlanArc
@@ -45,9 +42,9 @@ lines_arcs (suc left) bytes = arc_and_behind (arc_line bytes) (λ taken. lines_a
 -- ---- holds
 
 -- A hold's line, and the holds behind the bytes that it takes (document 02, paper 2).
-abbrev pub hold_and_behind : HoldLine → (behind : ℕ → List ℕ) → List ℕ
-hold_and_behind NoHold behind = []
-hold_and_behind (HoldRead hold taken) behind = hold ∷ behind taken
+abbrev pub hold_and_behind : Option HoldLine → (behind : ℕ → List ℕ) → List ℕ
+hold_and_behind None behind = []
+hold_and_behind (Some line) behind = line.hold ∷ behind line.taken
 
 -- The holds of so many lines (document 02, paper 2).
 unfoldable pub lines_holds : (left : ℕ) → List ℕ → List ℕ

@@ -3,133 +3,103 @@
 
 ghost use Rattle.std.specs.Prelude.{◌≡◌, ◌≤◌, length, drop};
 ghost use Rattle.cursor.specs.Lines.{line_numbers};
-ghost use Rattle.plan_lines.specs.Lines.{arc_line, hold_line, held_header_of, header_line};
+ghost use Rattle.plan_lines.specs.Lines.{arc_line, hold_line, header_told, held_header_of, header_line};
 ghost use Rattle.plan_lines.specs.Told.{lines_taken};
 
 use cursor::{LineNumbers, numbers_at};
 
 // An arc's line: its three numbers, and the bytes that it takes.
 #[derive(Clone, Copy)]
-pub enum ArcLine {
-    NoArc,
-    ArcRead {
-        tail: u32,
-        head: u32,
-        cost: u32,
-        taken: usize,
-    },
+pub struct ArcLine {
+    pub tail: u32,
+    pub head: u32,
+    pub cost: u32,
+    pub taken: usize,
 }
 
 // A hold's line: its one number, and the bytes that it takes.
 #[derive(Clone, Copy)]
-pub enum HoldLine {
-    NoHold,
-    HoldRead { hold: u32, taken: usize },
+pub struct HoldLine {
+    pub hold: u32,
+    pub taken: usize,
 }
 
 // Line 1: its first five numbers, 1 in `held` where holds are told and else 0, and the bytes that it takes.
 #[derive(Clone, Copy)]
-pub enum HeaderLine {
-    NoHeader,
-    HeaderRead {
-        nodes: u32,
-        arcs: u32,
-        ceiling: u32,
-        source: u32,
-        segments: u32,
-        held: u32,
-        taken: usize,
-    },
+pub struct HeaderLine {
+    pub nodes: u32,
+    pub arcs: u32,
+    pub ceiling: u32,
+    pub source: u32,
+    pub segments: u32,
+    pub held: u32,
+    pub taken: usize,
 }
 
-pub fn arc_line_at(bytes: &[u8], at: usize) -> ArcLine
+pub fn arc_line_at(bytes: &[u8], at: usize) -> Option<ArcLine>
     requires { at ≤ length bytes.now }
     ensures { result ≡ arc_line (drop at bytes.now) }
 {
-    let LineNumbers::NumbersRead {
-        first,
-        second,
-        third,
+    let LineNumbers {
+        numbers: [tail, head, cost, ..],
         taken,
-        ..
-    } = numbers_at(bytes, at, 3)
-    else {
-        return ArcLine::NoArc;
-    };
-    ArcLine::ArcRead {
-        tail: first,
-        head: second,
-        cost: third,
+    } = numbers_at(bytes, at, 3)?;
+    Some(ArcLine {
+        tail,
+        head,
+        cost,
         taken,
-    }
+    })
 }
 
-pub fn hold_line_at(bytes: &[u8], at: usize) -> HoldLine
+pub fn hold_line_at(bytes: &[u8], at: usize) -> Option<HoldLine>
     requires { at ≤ length bytes.now }
     ensures { result ≡ hold_line (drop at bytes.now) }
 {
-    let LineNumbers::NumbersRead { first, taken, .. } = numbers_at(bytes, at, 1) else {
-        return HoldLine::NoHold;
-    };
-    HoldLine::HoldRead { hold: first, taken }
+    let LineNumbers {
+        numbers: [hold, ..],
+        taken,
+    } = numbers_at(bytes, at, 1)?;
+    Some(HoldLine { hold, taken })
 }
 
-pub fn header_line_at(bytes: &[u8], at: usize) -> HeaderLine
+pub fn header_line_at(bytes: &[u8], at: usize) -> Option<HeaderLine>
     requires { at ≤ length bytes.now }
     ensures { result ≡ header_line (drop at bytes.now) }
 {
-    let LineNumbers::NumbersRead {
-        first,
-        second,
-        third,
-        fourth,
-        fifth,
-        taken,
-        ..
-    } = numbers_at(bytes, at, 5)
-    else {
+    let Some(line) = numbers_at(bytes, at, 5) else {
         return held_header_at(bytes, at);
     };
-    HeaderLine::HeaderRead {
-        nodes: first,
-        arcs: second,
-        ceiling: third,
-        source: fourth,
-        segments: fifth,
-        held: 0,
-        taken,
-    }
+    Some(header_told(line, 0))
 }
 
 // Line 1 with a sixth field, which is 1.
 #[tactic(auto, using(crate::proofs::Fields::other_header))]
-fn held_header_at(bytes: &[u8], at: usize) -> HeaderLine
+fn held_header_at(bytes: &[u8], at: usize) -> Option<HeaderLine>
     requires { at ≤ length bytes.now }
     ensures { result ≡ held_header_of (line_numbers 6 (drop at bytes.now)) }
 {
-    let LineNumbers::NumbersRead {
-        first,
-        second,
-        third,
-        fourth,
-        fifth,
-        sixth,
-        taken,
-        ..
-    } = numbers_at(bytes, at, 6)
-    else {
-        return HeaderLine::NoHeader;
-    };
-    if sixth != 1 {
-        return HeaderLine::NoHeader;
+    let line = numbers_at(bytes, at, 6)?;
+    if line.numbers[5] != 1 {
+        return None;
     }
-    HeaderLine::HeaderRead {
-        nodes: first,
-        arcs: second,
-        ceiling: third,
-        source: fourth,
-        segments: fifth,
-        held: 1,
+    Some(header_told(line, 1))
+}
+
+fn header_told(line: LineNumbers, held: u32) -> HeaderLine
+    ensures { result ≡ header_told line held }
+{
+    let LineNumbers {
+        numbers: [nodes, arcs, ceiling, source, segments, ..],
+        taken,
+    } = line;
+    HeaderLine {
+        nodes,
+        arcs,
+        ceiling,
+        source,
+        segments,
+        held,
         taken,
     }
 }
@@ -140,13 +110,11 @@ pub fn lines_taken(bytes: &[u8], at: usize, width: usize, count: u32) -> usize
     ensures { result ≡ lines_taken width count (drop at bytes.now) }
 {
     let mut line = at;
-    let mut i = 0;
-    while i < count {
-        let LineNumbers::NumbersRead { taken, .. } = numbers_at(bytes, line, width) else {
+    for _ in 0..count {
+        let Some(read) = numbers_at(bytes, line, width) else {
             return line - at;
         };
-        line += taken;
-        i += 1;
+        line += read.taken;
     }
     line - at
 }

@@ -4,7 +4,7 @@ use native.Mathlib.Omega.{arith}
 use mathlib.Core.Path.{◌≡◌, ap₂}
 use mathlib.Core.List.{List, [], ◌∷◌, map}
 use lib.ListN.{length, get_or, replicate, length-map, get_or-map}
-use Rattle.model.specs.declared.Check.TheVariants.{Passed}
+use Rattle.std.specs.Prelude.{Ok}
 use Rattle.theory.proofs.Lists.{get_d_replicate_same}
 use Rattle.check_sums.proofs.Sums.{passed_sums, sums_pass}
 use Rattle.grouping.specs.Arcs.{PlanArc, tail_key}
@@ -29,20 +29,20 @@ module _ (C : ℕ) (arcs : List PlanArc) (holds : List ℕ) where
       ≡ (get_or arcs a no_arc).cost + get_or holds (get_or arcs a no_arc).tail 0
   own_sum a = ap₂ (λ (cost tail : ℕ). cost + get_or holds tail 0) (get_or-map cost_key arcs a no_arc) (get_or-map tail_key arcs a no_arc)
 
-  pub sums_in : arc_sums_check C arcs holds ≡ Passed → All (SumIn C holds) arcs
+  pub sums_in : arc_sums_check C arcs holds ≡ Ok tt → All (SumIn C holds) arcs
   sums_in e = all_each arcs each
     where
       each : (a : ℕ) → a < length arcs → SumIn C holds (get_or arcs a no_arc)
       each a l =
           omega (arith, passed_sums C (λ b. get_or (arc_tails arcs) b 0) (map cost_key arcs) holds e a (omega (arith, length-map arcs cost_key)), own_sum a)
 
-  pub sums_passed : All (SumIn C holds) arcs → arc_sums_check C arcs holds ≡ Passed
+  pub sums_passed : All (SumIn C holds) arcs → arc_sums_check C arcs holds ≡ Ok tt
   sums_passed all = sums_pass C (λ b. get_or (arc_tails arcs) b 0) (map cost_key arcs) holds each
     where
       each : (a : ℕ) → a < length (map cost_key arcs) → get_or (map cost_key arcs) a 0 + get_or holds (get_or (arc_tails arcs) a 0) 0 ≤ C
       each a l = omega (arith, all_at arcs all a no_arc (omega (arith, length-map arcs cost_key)), own_sum a)
 
 -- Where every hold is 0, costs in range are enough.
-pub zeros_passed : (n C : ℕ) (arcs : List PlanArc) → ArcsIn n C arcs → arc_sums_check C arcs (replicate n 0) ≡ Passed
+pub zeros_passed : (n C : ℕ) (arcs : List PlanArc) → ArcsIn n C arcs → arc_sums_check C arcs (replicate n 0) ≡ Ok tt
 zeros_passed n C arcs all =
     sums_passed C arcs (replicate n 0) (all_so (λ (arc : PlanArc) r. omega (arith, get_d_replicate_same {A = ℕ} n arc.tail 0, r.cost_most)) all)

@@ -10,13 +10,13 @@ use mathlib.Core.List.{List, ◌∷◌, map}
 use lib.ListN.{length, get_or, drop, length-map, length-drop, get_or-map}
 use lib.Seq.{get_or-drop, drop-drop}
 use borrow.Author.Tests.{lt-ltb, le-ltb}
-use Rattle.model.specs.declared.Check.TheVariants.{Passed, Fault}
+use Rattle.std.specs.Prelude.{Ok, Err, None, Some}
+use Rattle.model.specs.Answers.{fault_of}
+use Rattle.model.specs.declared.Kind.TheVariants.{Cost}
 use Rattle.check_lists.specs.Lists.{least_fault}
 use Rattle.check_lists.proofs.Least.{none_left, fails_here, passes_here}
 use Rattle.check_sums.specs.Sums.{sum_fails, sums_check}
 use Rattle.grouping.specs.Arcs.{PlanArc, tail_key}
-use Rattle.plan_lines.specs.declared.ArcLine.TheVariants.{NoArc, ArcRead}
-use Rattle.plan_lines.specs.declared.HoldLine.TheVariants.{NoHold, HoldRead}
 use Rattle.plan_lines.specs.Lines.{arc_line, hold_line}
 use Rattle.plan_lines.specs.Told.{lines_taken, lines_arcs, lines_holds}
 use Rattle.plan_lines.proofs.Reach.{next_within, taken_within}
@@ -49,7 +49,7 @@ pub record Summing (n m C : ℕ) (bytes : List ℕ) (at behind line hold_line_le
   pub arcs_left : drop i (lines_arcs m (drop at bytes)) ≡ lines_arcs (m - i) (drop line bytes)
   pub holds_left : drop node (lines_holds n (drop behind bytes)) ≡ lines_holds (n - node) (drop hold_line_lem bytes)
   pub so_far : arc_sums_check C (lines_arcs m (drop at bytes)) (lines_holds n (drop behind bytes))
-      ≡ least_fault 8 (arc_fails C (lines_arcs m (drop at bytes)) (lines_holds n (drop behind bytes))) i (m - i)
+      ≡ least_fault Cost (arc_fails C (lines_arcs m (drop at bytes)) (lines_holds n (drop behind bytes))) i (m - i)
 
 pub summing_start : {n m C : ℕ} {bytes : List ℕ} {at behind : ℕ} → SumLines n m C bytes at behind → Summing n m C bytes at behind at behind 0 0
 unfolding sums_check
@@ -74,8 +74,8 @@ module _ {n m C : ℕ} {bytes : List ℕ} {at behind line hold_line_lem node i :
   abbrev all_holds : List ℕ
   all_holds = lines_holds n (drop behind bytes)
 
-  pub summing_end : m ≤ i → Passed ≡ arc_sums_check C all_arcs all_holds
-  summing_end l = sym (p.so_far ∙ none_left 8 (arc_fails C all_arcs all_holds) i m l)
+  pub summing_end : m ≤ i → (Ok tt) ≡ arc_sums_check C all_arcs all_holds
+  summing_end l = sym (p.so_far ∙ none_left _ (arc_fails C all_arcs all_holds) i m l)
 
   module _ (l : i < m) where
     -- ---- the line of arc i
@@ -83,11 +83,11 @@ module _ {n m C : ℕ} {bytes : List ℕ} {at behind line hold_line_lem node i :
     here : drop i all_arcs ≡ lines_arcs (suc (m - suc i)) (drop line bytes)
     here = let left : m - i ≡ suc (m - suc i) = omega arith in rw left at p.arcs_left
 
-    pub arc_missing : arc_line (drop line bytes) ≡ NoArc → ⊥
+    pub arc_missing : arc_line (drop line bytes) ≡ None → ⊥
     arc_missing e =
         arc_there (m - suc i) (drop line bytes) (ap length (sym here) ∙ length-drop i all_arcs ∙ omega (arith, p.given.arcs_count)) e
 
-    module _ {tail head cost taken : ℕ} (e : arc_line (drop line bytes) ≡ ArcRead tail head cost taken) where
+    module _ {tail head cost taken : ℕ} (e : arc_line (drop line bytes) ≡ Some (record { tail = tail; head = head; cost = cost; taken = taken })) where
       arcs_here : drop i all_arcs ≡ record { tail = tail; head = head; cost = cost } ∷ lines_arcs (m - suc i) (drop taken (drop line bytes))
       arcs_here = here ∙ arcs_next (m - suc i) (drop line bytes) e
 
@@ -125,12 +125,12 @@ module _ {n m C : ℕ} {bytes : List ℕ} {at behind line hold_line_lem node i :
         hold_here : drop tail all_holds ≡ lines_holds (suc (n - suc tail)) (drop (hold_line_lem + skipped) bytes)
         hold_here = let left : n - tail ≡ suc (n - suc tail) = omega (arith, tail_node) in rw left at holds_here
 
-        pub hold_missing : hold_line (drop (hold_line_lem + skipped) bytes) ≡ NoHold → ⊥
+        pub hold_missing : hold_line (drop (hold_line_lem + skipped) bytes) ≡ None → ⊥
         hold_missing h =
             hold_there (n - suc tail) (drop (hold_line_lem + skipped) bytes)
             (ap length (sym hold_here) ∙ length-drop tail all_holds ∙ omega (arith, p.given.holds_count, tail_node)) h
 
-        module _ {hold hold-taken : ℕ} (h : hold_line (drop (hold_line_lem + skipped) bytes) ≡ HoldRead hold hold-taken) where
+        module _ {hold hold-taken : ℕ} (h : hold_line (drop (hold_line_lem + skipped) bytes) ≡ Some (record { hold = hold; taken = hold-taken })) where
           hold_is : get_or all_holds tail 0 ≡ hold
           hold_is = front_is all_holds tail (hold_here ∙ holds_next (n - suc tail) (drop (hold_line_lem + skipped) bytes) h) 0
 
@@ -142,9 +142,9 @@ module _ {n m C : ℕ} {bytes : List ℕ} {at behind line hold_line_lem node i :
           sum_is : get_or (map cost_key all_arcs) i 0 + get_or all_holds (get_or (arc_tails all_arcs) i 0) 0 ≡ cost + hold
           sum_is = ap₂ (λ (a b : ℕ). a + b) cost_is (ap (λ (v : ℕ). get_or all_holds v 0) tail_is ∙ hold_is)
 
-          pub sum_above : C - hold < cost → Fault 8 i ≡ arc_sums_check C all_arcs all_holds
+          pub sum_above : C - hold < cost → Err (fault_of Cost i) ≡ arc_sums_check C all_arcs all_holds
           sum_above above =
-              sym (p.so_far ∙ fails_here 8 (arc_fails C all_arcs all_holds) i m l (lt-ltb C _ (omega (arith, hold_most, sum_is))))
+              sym (p.so_far ∙ fails_here _ (arc_fails C all_arcs all_holds) i m l (lt-ltb C _ (omega (arith, hold_most, sum_is))))
 
           pub summing_next : cost ≤ C - hold → Summing n m C bytes at behind (line + taken) (hold_line_lem + skipped) tail (i + 1)
           summing_next low =
@@ -163,5 +163,5 @@ module _ {n m C : ℕ} {bytes : List ℕ} {at behind line hold_line_lem node i :
                 arcs_left =
                     rw (add-one i) (behind_front all_arcs i arcs_here ∙ ap (lines_arcs (m - suc i)) (drop-drop taken line bytes));
                 holds_left = holds_here;
-                so_far = p.so_far ∙ passes_here 8 (arc_fails C all_arcs all_holds) i m l (le-ltb C _ (omega (arith, hold_most, sum_is)));
+                so_far = p.so_far ∙ passes_here _ (arc_fails C all_arcs all_holds) i m l (le-ltb C _ (omega (arith, hold_most, sum_is)));
               }

@@ -1,6 +1,6 @@
 -- Number 8 of a planning file behind its lines: an arc's cost together with its tail's hold (document 02, paper 2).
 use Rattle.std.specs.Prelude.{ℕ, ◌≤◌, ◌<◌, ◌≡◌, List, map, length, get_or, drop}
-use Rattle.model.specs.declared.Check.{Check}
+use Rattle.model.specs.Answers.{Check}
 use Rattle.check_lists.specs.Lists.{NoneAbove, NoneFalls}
 use Rattle.check_sums.specs.Sums.{sums_check}
 use Rattle.grouping.specs.Arcs.{PlanArc, tail_key}

@@ -6,7 +6,7 @@ ghost use Rattle.std.specs.Prelude.{◌≡◌, drop};
 ghost use Rattle.plan_lines.specs.Told.{lines_arcs, lines_holds};
 ghost use Rattle.plan_sums.specs.Sums.{arc_sums_check, SumLines};
 
-use model::Check;
+use model::{Fault, Kind};
 use plan_lines::{ArcLine, HoldLine, arc_line_at, hold_line_at, lines_taken};
 
 // The lines of the arcs begin at `at`, those of n holds at `behind`; n is asked for by the contract alone. No sum is formed: a cost is held
@@ -18,38 +18,37 @@ pub fn arc_sums_check(
     n: u32,
     arcs: u32,
     ceiling: u32,
-) -> Check
+) -> Result<(), Fault>
     requires { SumLines n arcs ceiling bytes.now at behind }
     ensures { result ≡ arc_sums_check ceiling (lines_arcs arcs (drop at bytes.now)) (lines_holds n (drop behind bytes.now)) }
 {
-    let count = arcs as usize;
     let mut line = at;
     let mut hold_line = behind;
     let mut node = 0;
-    let mut i = 0;
-    while i < count {
-        let ArcLine::ArcRead {
-            tail,
-            cost,
-            taken,
-            ..
-        } = arc_line_at(bytes, line)
+    for i in 0..arcs as usize {
+        let Some(
+            ArcLine {
+                tail,
+                cost,
+                taken,
+                ..
+            },
+        ) = arc_line_at(bytes, line)
         else {
-            return Check::Passed;
+            return Ok(());
         };
         hold_line += lines_taken(bytes, hold_line, 1, tail - node);
-        let HoldLine::HoldRead { hold, .. } = hold_line_at(bytes, hold_line) else {
-            return Check::Passed;
+        let Some(HoldLine { hold, .. }) = hold_line_at(bytes, hold_line) else {
+            return Ok(());
         };
         if cost > ceiling - hold {
-            return Check::Fault {
-                number: 8,
+            return Err(Fault {
+                kind: Kind::Cost,
                 place: i,
-            };
+            });
         }
         node = tail;
         line += taken;
-        i += 1;
     }
-    Check::Passed
+    Ok(())
 }

@@ -5,16 +5,15 @@ use mathlib.Core.Path.{◌≡◌, refl, ◌∙◌, ap, ap₂}
 use mathlib.Core.Bool.{Bool, true, false, cond}
 use mathlib.Core.List.{List, []}
 use lib.ListN.{length, length-append}
-use Rattle.model.specs.declared.Check.TheVariants.{Passed}
+use Rattle.std.specs.Prelude.{Ok}
 use Rattle.model.specs.Answers.{words_after}
 use Rattle.theory.specs.Maps.{Map, arcs}
 use Rattle.theory.specs.Runs.{Inputs, ValidInputs}
 use Rattle.theory.proofs.Sums.{length_list_below}
 use Rattle.check_lists.specs.Lists.{NoneAbove}
 use Rattle.plan_checks.specs.Checking.{plan_check}
-use Rattle.reader.specs.declared.PlanAnswer.{PlanAnswer}
 use Rattle.reader.specs.Plans.{Plan, plan_of, plan_run}
-use Rattle.reader.specs.Promise.{read_numbers, PlanPromised}
+use Rattle.reader.specs.Promise.{PlanAnswer, plan_header, PlanPromised}
 use Rattle.plan_text.specs.Rendering.{render_holds, hold_lines, render_plan, all_zero}
 use Rattle.plan_text.specs.Files.{arcs_of, plan_file}
 use Rattle.plan_text.specs.ReadBack.{LongEnough, ReadBack}
@@ -52,7 +51,7 @@ module _ (I : Inputs) (K : ℕ) (valid : ValidInputs I) (low : 2 ≤ K) (high : 
   -- ---- its checks
 
   pub file_passes : (starts heads costs holds : ℕ) → M.nodes + 1 ≤ starts → arcs M ≤ heads → arcs M ≤ costs → M.nodes ≤ holds
-      → plan_check (plan_file I K) starts heads costs holds ≡ Passed
+      → plan_check (plan_file I K) starts heads costs holds ≡ Ok tt
   unfolding plan_file
   file_passes starts heads costs holds starts_fit heads_fit costs_fit holds_fit =
       plan_passes in_range starts heads costs holds starts_fit (omega (arith, arc_count)) (omega (arith, arc_count)) holds_fit
@@ -84,15 +83,14 @@ module _ (I : Inputs) (K : ℕ) (valid : ValidInputs I) (low : 2 ≤ K) (high : 
       let done = rw passed at promised in
       let header = (plan_of (plan_file I K)).header in
       record {
-        accepted = done.read;
-        numbers =
-            done.numbers
-            ∙ ap (λ (run : Inputs). read_numbers run.map.nodes header.count run.ceiling run.source header.segments) file_run
-            ∙ ap₂ (λ (m segments : ℕ). read_numbers M.nodes m I.ceiling I.source segments) file_count file_segments;
-        starts_same = done.starts_after ∙ ap (λ (run : Inputs). words_after Passed run.map.starts starts) file_run;
-        heads_same = done.heads_after ∙ ap (λ (run : Inputs). words_after Passed run.map.heads heads) file_run;
-        costs_same = done.costs_after ∙ ap (λ (run : Inputs). words_after Passed run.map.costs costs) file_run;
-        holds_same = done.holds_after ∙ ap (λ (run : Inputs). words_after Passed run.map.holds holds) file_run;
+        accepted =
+            done.answered
+            ∙ ap (λ (run : Inputs). Ok (plan_header run.map.nodes header.count run.ceiling run.source header.segments)) file_run
+            ∙ ap₂ (λ (m segments : ℕ). Ok (plan_header M.nodes m I.ceiling I.source segments)) file_count file_segments;
+        starts_same = done.starts_after ∙ ap (λ (run : Inputs). words_after (Ok tt) run.map.starts starts) file_run;
+        heads_same = done.heads_after ∙ ap (λ (run : Inputs). words_after (Ok tt) run.map.heads heads) file_run;
+        costs_same = done.costs_after ∙ ap (λ (run : Inputs). words_after (Ok tt) run.map.costs costs) file_run;
+        holds_same = done.holds_after ∙ ap (λ (run : Inputs). words_after (Ok tt) run.map.holds holds) file_run;
       }
 
   -- ---- its length

@@ -7,12 +7,11 @@ use mathlib.Core.Logic.{◌≢◌}
 use mathlib.Core.List.{List, [], ◌∷◌, ◌++◌, append_assoc}
 use lib.ListN.{length, drop}
 use lib.Seq.{drop-append-add}
-use Rattle.fields.specs.Fields.{is_digit_lem, NoLine, fields, line_feed, comma, decimal, render_fields, render_line}
+use Rattle.fields.specs.Fields.{is_digit, NoLine, fields, line_feed, comma, decimal, render_fields, render_line}
 use Rattle.fields.proofs.Parsing.{NoDigits, FitFields, number_decimal, number_other}
-use Rattle.cursor.specs.declared.LineNumbers.TheVariants.{NoNumbers}
+use Rattle.std.specs.Prelude.{None, Some}
 use Rattle.cursor.specs.Lines.{line_numbers_of, line_numbers}
 use Rattle.cursor.proofs.LinesRead.{numbers_rendered}
-use Rattle.plan_lines.specs.declared.HeaderLine.TheVariants.{HeaderRead}
 use Rattle.plan_lines.specs.Lines.{header_line}
 use Rattle.plan_lines.proofs.Fields.{five_header, six_header, not_five}
 use Rattle.plan_text.specs.Rendering.{all_zero, header_fields}
@@ -24,7 +23,7 @@ behind_field value end rest =
     let e : suc (length (decimal value)) ≡ length (decimal value) + 1 = omega arith in
     rw (e, drop-append-add)
 
-module _ (end other : ℕ) (ends others : List ℕ) (plain : is_digit_lem other ≡ false) (away : other ≢ end) where
+module _ (end other : ℕ) (ends others : List ℕ) (plain : is_digit other ≡ false) (away : other ≢ end) where
   fields_other : (shared values rest : List ℕ) → NoDigits shared → FitFields values → length shared < length values
       → fields (shared ++ (end ∷ ends)) (render_fields (shared ++ (other ∷ others)) values ++ rest) ≡ NoLine
   unfolding fields render_fields
@@ -51,7 +50,7 @@ module _ (n m C source K : ℕ) (fit : FitFields (n ∷ m ∷ C ∷ source ∷ K
   line_one plain = render_line comma (n ∷ m ∷ C ∷ source ∷ K ∷ cond plain [] (1 ∷ []))
 
   -- six fields are no five
-  six_not_five : line_numbers 5 (line_one false ++ rest) ≡ NoNumbers
+  six_not_five : line_numbers 5 (line_one false ++ rest) ≡ None
   unfolding line_numbers
   six_not_five =
       let away : comma ≢ line_feed = λ e. omega arith in
@@ -59,7 +58,7 @@ module _ (n m C source K : ℕ) (fit : FitFields (n ∷ m ∷ C ∷ source ∷ K
       (fields_other line_feed comma [] (line_feed ∷ []) refl away (comma ∷ comma ∷ comma ∷ comma ∷ []) (n ∷ m ∷ C ∷ source ∷ K ∷ 1 ∷ []) rest
       (refl, (refl, (refl, (refl, tt)))) (omega arith) (omega arith))
 
-  by_plain : (plain : Bool) → header_line (line_one plain ++ rest) ≡ HeaderRead n m C source K (cond plain 0 1) (length (line_one plain))
+  by_plain : (plain : Bool) → header_line (line_one plain ++ rest) ≡ Some (record { nodes = n; arcs = m; ceiling = C; source = source; segments = K; held = cond plain 0 1; taken = length (line_one plain) })
   by_plain true =
       sym (five_header (line_one true ++ rest) (numbers_rendered (n ∷ m ∷ C ∷ source ∷ K ∷ []) rest fit (omega arith)))
   by_plain false =
@@ -68,5 +67,5 @@ module _ (n m C source K : ℕ) (fit : FitFields (n ∷ m ∷ C ∷ source ∷ K
 
   pub line_one_read : (holds : List ℕ)
       → header_line (render_line comma (header_fields n m C source K holds) ++ rest)
-      ≡ HeaderRead n m C source K (cond (all_zero holds) 0 1) (length (render_line comma (header_fields n m C source K holds)))
+      ≡ Some (record { nodes = n; arcs = m; ceiling = C; source = source; segments = K; held = cond (all_zero holds) 0 1; taken = length (render_line comma (header_fields n m C source K holds)) })
   line_one_read holds = by_plain (all_zero holds)

@@ -7,7 +7,7 @@ use lib.Dec.{ltb, leb}
 use lib.ListN.{length, length-append}
 use lib.Seq.{drop-append_seam}
 use borrow.Author.Tests.{le-ltb, lt-leb}
-use Rattle.model.specs.declared.Check.TheVariants.{Passed}
+use Rattle.std.specs.Prelude.{Ok, Some}
 use Rattle.check_lists.proofs.Tests.{or_neither}
 use Rattle.check_lists.specs.Lists.{NoneAbove}
 use Rattle.checks.proofs.Order as checked
@@ -20,8 +20,6 @@ use Rattle.grouping.proofs.All.{none, more}
 use Rattle.grouping.proofs.Order.{Rising}
 use Rattle.grouping.proofs.Order as rising
 use Rattle.grouping.proofs.Valid.{ArcsIn}
-use Rattle.plan_lines.specs.declared.ArcLine.TheVariants.{ArcRead}
-use Rattle.plan_lines.specs.declared.HoldLine.TheVariants.{HoldRead}
 use Rattle.plan_lines.specs.Lines.{arc_of, arc_line, hold_line_of, hold_line}
 use Rattle.plan_lines.specs.Told.{lines_taken, behind_lines, behind_arcs, lines_arcs, lines_holds}
 use Rattle.plan_checks.specs.Checking.{arc_checks, arcs_check, hold_lines_check}
@@ -42,7 +40,7 @@ abbrev line_of_arc : PlanArc → List ℕ
 line_of_arc arc = render_line comma (arc_numbers arc)
 
 arc_read : (arc : PlanArc) (rest : List ℕ) → FitFields (arc_numbers arc)
-    → arc_line (line_of_arc arc ++ rest) ≡ ArcRead arc.tail arc.head arc.cost (length (line_of_arc arc))
+    → arc_line (line_of_arc arc ++ rest) ≡ Some (record { tail = arc.tail; head = arc.head; cost = arc.cost; taken = length (line_of_arc arc) })
 unfolding arc_line
 arc_read arc rest fit = ap arc_of (numbers_rendered (arc_numbers arc) rest fit (omega arith))
 
@@ -72,7 +70,7 @@ pub behind_arcs_lem : (arcs : List PlanArc) (rest : List ℕ) → FitArcs arcs �
 behind_arcs_lem arcs rest fit = rw (arcs_taken arcs rest fit) (drop-append_seam (render_arcs arcs) rest)
 
 pub arc_lines_pass : (n C i before : ℕ) (arcs : List PlanArc) (rest : List ℕ) → FitArcs arcs → Rising tail_key n before arcs → ArcsIn n C arcs
-    → arcs_check n C (length arcs) i before (render_arcs arcs ++ rest) ≡ Passed
+    → arcs_check n C (length arcs) i before (render_arcs arcs ++ rest) ≡ Ok tt
 unfolding arcs_check render_arcs arc_checks
 arc_lines_pass n C i before [] rest fit rises all = refl
 arc_lines_pass n C i before (arc ∷ arcs) rest fit (rising.more low node rises) (more r all) =
@@ -82,9 +80,9 @@ arc_lines_pass n C i before (arc ∷ arcs) rest fit (rising.more low node rises)
       drop-append_seam (line_of_arc arc) (render_arcs arcs ++ rest),
     )
     (checked.all_passed_lem
-    (checked.more (test_passes 12 i (or_neither (ltb arc.tail before) (leb n arc.tail) (le-ltb arc.tail before low) (lt-leb n arc.tail node)))
-    (checked.more (test_passes 7 i (lt-leb n arc.head r.ends.head_node))
-    (checked.more (test_passes 8 i (le-ltb C arc.cost r.cost_most))
+    (checked.more (test_passes _ i (or_neither (ltb arc.tail before) (leb n arc.tail) (le-ltb arc.tail before low) (lt-leb n arc.tail node)))
+    (checked.more (test_passes _ i (lt-leb n arc.head r.ends.head_node))
+    (checked.more (test_passes _ i (le-ltb C arc.cost r.cost_most))
     (checked.more (arc_lines_pass n C (suc i) arc.tail arcs rest fit.1 rises all) checked.none)))))
 
 -- ---- the holds
@@ -96,7 +94,7 @@ fit_holds low (hold ∷ holds) most = (omega (arith, most 0 (omega arith)), fit_
 abbrev line_of_hold : ℕ → List ℕ
 line_of_hold hold = render_line comma (hold ∷ [])
 
-hold_read : (hold : ℕ) (rest : List ℕ) → FitFields (hold ∷ []) → hold_line (line_of_hold hold ++ rest) ≡ HoldRead hold (length (line_of_hold hold))
+hold_read : (hold : ℕ) (rest : List ℕ) → FitFields (hold ∷ []) → hold_line (line_of_hold hold ++ rest) ≡ Some (record { hold = hold; taken = length (line_of_hold hold) })
 unfolding hold_line
 hold_read hold rest fit = ap hold_line_of (numbers_rendered (hold ∷ []) rest fit (omega arith))
 
@@ -126,7 +124,7 @@ pub behind_holds : (holds rest : List ℕ) → FitFields holds → behind_lines 
 behind_holds holds rest fit = rw (holds_taken holds rest fit) (drop-append_seam (render_holds holds) rest)
 
 pub hold_lines_pass : (C m v : ℕ) (holds rest : List ℕ) → FitFields holds → NoneAbove C holds
-    → hold_lines_check C m (length holds) v (render_holds holds ++ rest) ≡ Passed
+    → hold_lines_check C m (length holds) v (render_holds holds ++ rest) ≡ Ok tt
 unfolding hold_lines_check render_holds
 hold_lines_pass C m v [] rest fit most = refl
 hold_lines_pass C m v (hold ∷ holds) rest fit most =
@@ -136,5 +134,5 @@ hold_lines_pass C m v (hold ∷ holds) rest fit most =
       drop-append_seam (line_of_hold hold) (render_holds holds ++ rest),
     )
     (checked.all_passed_lem
-    (checked.more (test_passes 20 v (le-ltb C hold (most 0 (omega arith))))
+    (checked.more (test_passes _ v (le-ltb C hold (most 0 (omega arith))))
     (checked.more (hold_lines_pass C m (suc v) holds rest fit.1 (λ w l. most (suc w) (omega arith))) checked.none)))

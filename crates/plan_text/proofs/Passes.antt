@@ -7,7 +7,7 @@ use mathlib.Core.Path.{◌≡◌, refl, sym}
 use mathlib.Core.List.{List, [], ◌∷◌, ◌++◌, append-nil}
 use lib.ListN.{length}
 use borrow.Author.Tests.{le-ltb}
-use Rattle.model.specs.declared.Check.TheVariants.{Passed}
+use Rattle.std.specs.Prelude.{Ok}
 use Rattle.check_lists.specs.Lists.{NoneAbove}
 use Rattle.checks.specs.Checks.{first_fault, lent_checks}
 use Rattle.checks.proofs.Order.{none, more, all_passed_lem, parts_pass}
@@ -55,21 +55,21 @@ module _ {n C source K : ℕ} {arcs : List PlanArc} {holds : List ℕ} (r : Plan
 
   -- ---- the lines behind line 1
 
-  told_arcs_pass : (rest : List ℕ) → arcs_check n C (length arcs) 0 0 (render_arcs arcs ++ rest) ≡ Passed
+  told_arcs_pass : (rest : List ℕ) → arcs_check n C (length arcs) 0 0 (render_arcs arcs ++ rest) ≡ Ok tt
   told_arcs_pass rest = arc_lines_pass n C 0 0 arcs rest fits r.tails_rising r.arcs_in
 
-  held_pass : hold_lines_check C (length arcs) n 0 (render_holds holds) ≡ Passed
+  held_pass : hold_lines_check C (length arcs) n 0 (render_holds holds) ≡ Ok tt
   held_pass = rw (sym r.holds_length, sym (append-nil (render_holds holds))) (hold_lines_pass C (length arcs) 0 holds [] held r.holds_low)
 
   nothing_left : behind_lines 1 n (render_holds holds) ≡ []
   nothing_left = rw (sym r.holds_length, sym (append-nil (render_holds holds))) (behind_holds holds [] held)
 
   lines_pass : (plain : Bool) → all_zero holds ≡ plain
-      → first_fault (lines_checks n (length arcs) C (cond plain 0 1) (render_arcs arcs ++ cond plain [] (render_holds holds))) ≡ Passed
+      → first_fault (lines_checks n (length arcs) C (cond plain 0 1) (render_arcs arcs ++ cond plain [] (render_holds holds))) ≡ Ok tt
   unfolding lines_checks behind_checks hold_lines_check lines_taken
   lines_pass true e =
       rw (arcs_read arcs [] fits, behind_arcs_lem arcs [] fits, held_told holds held r.holds_length true e)
-      (all_passed_lem (more (told_arcs_pass []) (more refl (more (test_passes 11 _ refl) (more (sums_passed C arcs holds r.sums_low) none)))))
+      (all_passed_lem (more (told_arcs_pass []) (more refl (more (test_passes _ _ refl) (more (sums_passed C arcs holds r.sums_low) none)))))
   lines_pass false e =
       rw (
         arcs_read arcs (render_holds holds) fits,
@@ -77,27 +77,27 @@ module _ {n C source K : ℕ} {arcs : List PlanArc} {holds : List ℕ} (r : Plan
         nothing_left,
         held_told holds held r.holds_length false e,
       )
-      (all_passed_lem (more (told_arcs_pass (render_holds holds)) (more held_pass (more (test_passes 11 _ refl) (more (sums_passed C arcs holds r.sums_low) none)))))
+      (all_passed_lem (more (told_arcs_pass (render_holds holds)) (more held_pass (more (test_passes _ _ refl) (more (sums_passed C arcs holds r.sums_low) none)))))
 
   -- ---- line 1, and the file
 
   -- the words of the lists lent for it, the last for the holds
   module _ (starts heads costs rests : ℕ) (starts_fit : n + 1 ≤ starts) (heads_fit : length arcs ≤ heads) (costs_fit : length arcs ≤ costs) (holds_fit : n ≤ rests) where
-    header_passes : first_fault (header_checks n (length arcs) C source K starts heads costs rests) ≡ Passed
+    header_passes : first_fault (header_checks n (length arcs) C source K starts heads costs rests) ≡ Ok tt
     unfolding header_checks lent_checks
     header_passes =
         all_passed_lem
-        (more (range_passes 1 n 1 4096 r.some_node r.few_nodes)
-        (more (test_passes 4 0 (le-ltb 65536 (length arcs) r.few_arcs))
+        (more (range_passes _ n 1 4096 r.some_node r.few_nodes)
+        (more (test_passes _ 0 (le-ltb 65536 (length arcs) r.few_arcs))
         (more (ceiling_passes C r.low_ceiling)
         (more (source_passes n source r.source_node)
-        (more (range_passes 9 K 2 64 r.segments_low r.segments_high)
+        (more (range_passes _ K 2 64 r.segments_low r.segments_high)
         (more (lent_passes 0 starts (n + 1) starts_fit)
         (more (lent_passes 1 heads (length arcs) heads_fit)
         (more (lent_passes 2 costs (length arcs) costs_fit)
         (more (lent_passes 3 rests n holds_fit) none)))))))))
 
-    pub plan_passes : plan_check (render_plan n C source K arcs holds) starts heads costs rests ≡ Passed
+    pub plan_passes : plan_check (render_plan n C source K arcs holds) starts heads costs rests ≡ Ok tt
     unfolding plan_check
     plan_passes =
         rw (header_rendered n C source K arcs holds fit, behind_line_one n C source K arcs holds)

@@ -15,7 +15,7 @@ use Rattle.fields.proofs.Parsing.{FitFields}
 use Rattle.grouping.specs.Arcs.{PlanArc, numbered, starts_of, heads_of, costs_of}
 use Rattle.grouping.proofs.Valid.{same_map}
 use Rattle.plan_lines.specs.declared.HeaderLine.{HeaderLine}
-use Rattle.plan_lines.specs.declared.HeaderLine.TheVariants.{HeaderRead}
+use Rattle.std.specs.Prelude.{Option, Some}
 use Rattle.plan_lines.specs.Lines.{header_line}
 use Rattle.plan_lines.specs.Told.{node_holds}
 use Rattle.reader.specs.Plans.{header_numbers, Plan, plan_of, plan_run}
@@ -51,8 +51,16 @@ module _ (n C source K : ℕ) (arcs : List PlanArc) (holds : List ℕ) where
   lines_behind = render_arcs arcs ++ hold_lines holds
 
   -- Line 1 as it is read.
-  abbrev pub header_told : HeaderLine
-  header_told = HeaderRead n (length arcs) C source K (cond (all_zero holds) 0 1) (length line_one)
+  abbrev pub header_told : Option HeaderLine
+  header_told = Some (record {
+    nodes = n;
+    arcs = length arcs;
+    ceiling = C;
+    source = source;
+    segments = K;
+    held = cond (all_zero holds) 0 1;
+    taken = length line_one;
+  })
 
   -- What the file tells.
   abbrev pub plan_told : Plan

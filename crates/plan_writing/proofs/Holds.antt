@@ -5,7 +5,6 @@ use native.Mathlib.Omega.{arith}
 use mathlib.Core.Path.{◌≡◌, refl, ap, ◌∙◌}
 use mathlib.Core.List.{List, [], ◌∷◌, ◌++◌}
 use lib.ListN.{length, get_or, take, drop, length-append, take-append-drop}
-use lib.Seq.{take-length}
 use Rattle.fields.specs.Fields.{comma, render_line}
 use Rattle.line_writing.proofs.Rendered.{line_most}
 use Rattle.plan_text.specs.Rendering.{render_holds}
@@ -36,6 +35,3 @@ module _ (holds : List ℕ) where
         ap length (holds_prefix (take v holds) (drop v holds)),
         length-append (render_holds (take v holds)) (render_holds (drop v holds)),
       )
-
-  pub lines_all : (v : ℕ) → v ≡ length holds → render_holds (take v holds) ≡ render_holds holds
-  lines_all v e = rw (e, take-length holds)

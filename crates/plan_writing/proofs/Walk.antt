@@ -43,53 +43,32 @@ module _ (each : ℕ → PlanArc) where
 
 -- ---- node by node
 
--- Arc a comes next, and no node before v has an arc from a on.
-pub record Walked (n : ℕ) (starts heads : List ℕ) (v a : ℕ) : Type 0 where
-  pub node : v < n
-  pub low : get_or starts v 0 ≤ a
-  pub few : a ≤ length heads
-
 module _ {n : ℕ} {starts heads costs : List ℕ} (o : InOrder n starts heads costs) where
-  pub last_start : get_or starts n 0 ≡ length heads
+  last_start : get_or starts n 0 ≡ length heads
   last_start = o.sound.starts_last
 
-  pub start_few : (v : ℕ) → v ≤ n → get_or starts v 0 ≤ 65536
-  start_few v l = omega (arith, starts_mono o.sound v n l (omega arith), last_start, o.sound.few_arcs)
+  pub none_walked : render_arcs (list_below (get_or starts 0 0) (arc_at n starts heads costs)) ≡ []
+  unfolding render_arcs
+  none_walked = ap (λ (arcs : ℕ). render_arcs (list_below arcs (arc_at n starts heads costs))) o.sound.starts_first
 
-  pub walk_start : Walked n starts heads 0 0
-  walk_start = record { node = o.sound.some_node; low = omega (arith, o.sound.starts_first); few = omega arith }
+  -- arc a leaves node v
+  module _ (v a : ℕ) (node : v < n) (low : get_or starts v 0 ≤ a) (here : a < get_or starts (v + 1) 0) where
+    pub arc_within : a < length heads
+    arc_within = omega (arith, starts_mono o.sound (v + 1) n (omega arith) (omega arith), last_start)
 
-  module _ {v a : ℕ} (w : Walked n starts heads v a) where
-    pub node_walked : a < length heads → get_or starts (v + 1) 0 ≤ a → Walked n starts heads (v + 1) a
-    node_walked l over = record { node = more; low = over; few = w.few }
-      where
-        more : v + 1 < n
-        more = elim (split (v + 1) n) [
-          | inl k ↦ k
-          | inr k ↦ let e : v + 1 ≡ n = omega (arith, w.node) in absurd (omega (arith, rw e at over, last_start))
-        ]
+    tail_here : tail_of n starts a ≡ v
+    tail_here = tail_is o.sound a v (low, rw (add-one v) at here)
 
-    module _ (here : a < get_or starts (v + 1) 0) where
-      pub arc_walked : Walked n starts heads v (a + 1)
-      arc_walked = record {
-        node = w.node;
-        low = omega (arith, w.low);
-        few = omega (arith, starts_mono o.sound (v + 1) n (omega (arith, w.node)) (omega arith), last_start);
-      }
+    -- the line of arc a behind those before it
+    pub line_walked : render_arcs (list_below (a + 1) (arc_at n starts heads costs))
+        ≡ render_arcs (list_below a (arc_at n starts heads costs)) ++ render_line comma (v ∷ get_or heads a 0 ∷ get_or costs a 0 ∷ [])
+    line_walked =
+        rw (add-one a)
+        (arc_lines_next a (arc_at n starts heads costs)
+        ∙ ap (λ (tail : ℕ). render_arcs (list_below a (arc_at n starts heads costs)) ++ render_line comma (tail ∷ get_or heads a 0 ∷ get_or costs a 0 ∷ [])) tail_here)
 
-      tail_here : tail_of n starts a ≡ v
-      tail_here = tail_is o.sound a v (w.low, rw (add-one v) at here)
-
-      -- the line of arc a behind those before it
-      pub line_walked : render_arcs (list_below (a + 1) (arc_at n starts heads costs))
-          ≡ render_arcs (list_below a (arc_at n starts heads costs)) ++ render_line comma (v ∷ get_or heads a 0 ∷ get_or costs a 0 ∷ [])
-      line_walked =
-          rw (add-one a)
-          (arc_lines_next a (arc_at n starts heads costs)
-          ∙ ap (λ (tail : ℕ). render_arcs (list_below a (arc_at n starts heads costs)) ++ render_line comma (tail ∷ get_or heads a 0 ∷ get_or costs a 0 ∷ [])) tail_here)
-
-      pub length_walked : length (render_arcs (list_below (a + 1) (arc_at n starts heads costs)))
-          ≡ length (render_arcs (list_below a (arc_at n starts heads costs))) + length (render_line comma (v ∷ get_or heads a 0 ∷ get_or costs a 0 ∷ []))
-      length_walked =
-          ap length line_walked
-          ∙ length-append (render_arcs (list_below a (arc_at n starts heads costs))) (render_line comma (v ∷ get_or heads a 0 ∷ get_or costs a 0 ∷ []))
+    pub length_walked : length (render_arcs (list_below (a + 1) (arc_at n starts heads costs)))
+        ≡ length (render_arcs (list_below a (arc_at n starts heads costs))) + length (render_line comma (v ∷ get_or heads a 0 ∷ get_or costs a 0 ∷ []))
+    length_walked =
+        ap length line_walked
+        ∙ length-append (render_arcs (list_below a (arc_at n starts heads costs))) (render_line comma (v ∷ get_or heads a 0 ∷ get_or costs a 0 ∷ []))

@@ -6,24 +6,16 @@ ghost use Rattle.plan_writing.specs.Texts.{InOrder};
 
 use line_writing::line_length;
 
-// Node by node, so that an arc's tail is known; the last start is the number of arcs.
+// Node by node, so that an arc's tail is known.
 pub fn arcs_length(n: u32, starts: &[u32], heads: &[u32], costs: &[u32]) -> usize
     requires { InOrder n starts.now heads.now costs.now }
     ensures { result ≡ length (render_arcs (arc_list n starts.now heads.now costs.now)) }
 {
-    let arcs = starts[n as usize] as usize;
     let mut total = 0;
-    let mut v = 0;
-    let mut a = 0;
-    while a < arcs {
-        if a < starts[v as usize + 1] as usize {
-            let head = heads[a];
-            let cost = costs[a];
-            let line = [v, head, cost];
-            total += line_length(&line);
-            a += 1;
-        } else {
-            v += 1;
+    for v in 0..n {
+        let i = v as usize;
+        for a in starts[i] as usize..starts[i + 1] as usize {
+            total += line_length(&[v, heads[a], costs[a]]);
         }
     }
     total
@@ -34,12 +26,8 @@ pub fn holds_length(holds: &[u32]) -> usize
     ensures { result ≡ length (render_holds holds.now) }
 {
     let mut total = 0;
-    let mut v = 0;
-    while v < holds.len() {
-        let hold = holds[v];
-        let line = [hold];
-        total += line_length(&line);
-        v += 1;
+    for hold in holds {
+        total += line_length(&[*hold]);
     }
     total
 }

@@ -21,19 +21,11 @@ pub fn put_arcs(
     ensures { Writes at (render_arcs (arc_list n starts.now heads.now costs.now))
         buffer.old buffer.new result }
 {
-    let arcs = starts[n as usize] as usize;
     let mut next = at;
-    let mut v = 0;
-    let mut a = 0;
-    while a < arcs {
-        if a < starts[v as usize + 1] as usize {
-            let head = heads[a];
-            let cost = costs[a];
-            let line = [v, head, cost];
-            next = put_line(buffer, next, &line);
-            a += 1;
-        } else {
-            v += 1;
+    for v in 0..n {
+        let i = v as usize;
+        for a in starts[i] as usize..starts[i + 1] as usize {
+            next = put_line(buffer, next, &[v, heads[a], costs[a]]);
         }
     }
     next
@@ -44,12 +36,8 @@ pub fn put_holds(buffer: &mut [u8], at: usize, holds: &[u32]) -> usize
     ensures { Writes at (render_holds holds.now) buffer.old buffer.new result }
 {
     let mut next = at;
-    let mut i = 0;
-    while i < holds.len() {
-        let hold = holds[i];
-        let line = [hold];
-        next = put_line(buffer, next, &line);
-        i += 1;
+    for hold in holds {
+        next = put_line(buffer, next, &[*hold]);
     }
     next
 }

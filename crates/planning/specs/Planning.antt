@@ -1,18 +1,21 @@
 -- What `plan` prints for every input, and what it leaves in the lists that it lends (document 01, "Planning file" and "What a call
 -- returns").
-use Rattle.std.specs.Prelude.{ℕ, ◌+◌, ◌≤◌, cond, ◌≡◌, List, ltb, eqb, length, take, replicate}
-use Rattle.model.specs.declared.Check.{Check}
-use Rattle.model.specs.declared.Check.TheVariants.{Passed, Fault}
-use Rattle.model.specs.Answers.{Numbers, words_after}
+use Rattle.std.specs.Prelude.{ℕ, ◌+◌, ◌≤◌, cond, ◌≡◌, List, ltb, length, take, replicate, Result, Ok, Err}
+use Rattle.model.specs.declared.Fault.{Fault}
+use Rattle.model.specs.declared.Kind.TheVariants.{InputSize}
+use Rattle.model.specs.Answers.{Check, fault_of, numbers_of, words_after}
 use Rattle.theory.specs.Heap.{placements}
-use Rattle.theory.specs.Runs.{Inputs, inputs, Levels, one, two, heap_buckets, work_words, steps_of}
+use Rattle.theory.specs.Runs.{Inputs, inputs, heap_buckets, work_words, steps_of}
+use Rattle.theory.specs.declared.Levels.{Levels}
+use Rattle.theory.specs.declared.Levels.TheVariants.{One, Two}
 use Rattle.checks.specs.Checks.{first_fault, run_checks, Lengths, lengths_for}
 use Rattle.runs.specs.Promise.{Lent, lent, run_numbers}
 use Rattle.fields.specs.Writing.{Writes}
 use Rattle.plan_checks.specs.Checking.{plan_check}
+use Rattle.reader.specs.declared.PlanHeader.{PlanHeader}
 use Rattle.reader.specs.Plans.{Plan, plan_of, plan_starts, plan_heads, plan_costs, plan_holds, plan_run}
 use Rattle.report.specs.Report.{refused_text, accepted_text}
-use Rattle.planning.specs.declared.RunNumbers.{RunNumbers}
+use Rattle.planning.specs.declared.BothRuns.{BothRuns}
 
 -- ---- the text
 
@@ -23,23 +26,23 @@ most_bytes = 65536
 -- 13 before any line is read, then the reader's checks with the words that `plan` lends (document 01, "What a call returns" and
 -- "Planning file"; document 02, paper 2).
 unfoldable pub planning_check : (bytes : List ℕ) → Check
-planning_check bytes = cond (ltb most_bytes (length bytes)) (Fault 13 0) (plan_check bytes 513 2048 2048 512)
+planning_check bytes = cond (ltb most_bytes (length bytes)) (Err (fault_of InputSize 0)) (plan_check bytes 513 2048 2048 512)
 
 -- The answer's text for m arcs and K, of the steps of both heaps over what the runs are given. Decreases, distances and parents are equal
 -- for both, and the one-level heap's are told (document 01, "Planning file"; document 02, paper 3).
 abbrev pub heaps_text : (m K : ℕ) → Inputs → List ℕ
 heaps_text m K I =
-    let first = steps_of one I in
-    let second = steps_of (two K) I in
+    let first = steps_of One I in
+    let second = steps_of (Two K) I in
     accepted_text I.map.nodes m (length first.search.roster) first.search.decreases
-    (heap_buckets one I.ceiling) (placements first) first.looks first.reads
-    (heap_buckets (two K) I.ceiling) (placements second) second.looks second.reads
+    (heap_buckets One I.ceiling) (placements first) first.looks first.reads
+    (heap_buckets (Two K) I.ceiling) (placements second) second.looks second.reads
     first.search.distances first.search.parents
 
 -- The text for a file that tells `plan` and whose checks come to `check` (document 01, "Planning file").
 abbrev pub plan_answer_text : Check → Plan → List ℕ
-plan_answer_text Passed plan = heaps_text plan.header.count plan.header.segments (plan_run plan)
-plan_answer_text (Fault number place) plan = refused_text number place
+plan_answer_text (Ok tt) plan = heaps_text plan.header.count plan.header.segments (plan_run plan)
+plan_answer_text (Err fault) plan = refused_text fault
 
 -- What `plan` prints (document 01, "Planning file").
 unfoldable pub plan_text_lem : (bytes : List ℕ) → List ℕ
@@ -78,9 +81,9 @@ lent_of l = lent l.distances l.parents l.roster l.work
 -- What a run of this kind of heap leaves in the lists, whose checks come to `check`. Distances, parents and roster are equal for all kinds, and
 -- the one-level heap's are named (document 01, "What the planner holds and leaves out"; document 02, paper 6).
 pub record RunLeft (check : Check) (L : Levels) (I : Inputs) (l l' : Lent) : Type 0 where
-  pub distances_after : l'.distances ≡ words_after check (steps_of one I).search.distances l.distances
-  pub parents_after : l'.parents ≡ words_after check (steps_of one I).search.parents l.parents
-  pub roster_after : l'.roster ≡ words_after check (steps_of one I).search.roster l.roster
+  pub distances_after : l'.distances ≡ words_after check (steps_of One I).search.distances l.distances
+  pub parents_after : l'.parents ≡ words_after check (steps_of One I).search.parents l.parents
+  pub roster_after : l'.roster ≡ words_after check (steps_of One I).search.roster l.roster
   pub work_after : l'.work ≡ words_after check (replicate (work_words L I.map.nodes) 0) l.work
 
 -- The lists afterwards, of a file that tells `plan` and whose checks come to `check`: its map, and what its last run leaves, which is one of this
@@ -96,7 +99,7 @@ pub record ListsLeft (check : Check) (plan : Plan) (L : Levels) (l l' : PlanList
 -- "Planning file").
 pub record Answered (check : Check) (plan : Plan) (l l' : PlanLists) (output output' : List ℕ) (bytes : ℕ) : Type 0 where
   pub text : Writes 0 (plan_answer_text check plan) output output' bytes
-  pub lists : ListsLeft check plan (two plan.header.segments) l l'
+  pub lists : ListsLeft check plan (Two plan.header.segments) l l'
 
 -- From bytes to bytes, for every input (document 01, "Planning file" and "What a call returns").
 abbrev pub PlanningPromised : (bytes : List ℕ) → (l l' : PlanLists) → (output output' : List ℕ) → (written : ℕ) → Type 0
@@ -121,57 +124,49 @@ pub record PlanLends (l : PlanLists) (output : List ℕ) : Type 0 where
   pub lists : WordsLent l
   pub output_bytes : length output ≡ 33280
 
--- The numbers that a run has returned, as document 01 names them (document 01, "What a call returns").
-abbrev pub told : RunNumbers → Numbers
-told run = record {
-  returned = run.returned;
-  place = run.place;
-  reached = run.reached;
-  buckets = run.buckets;
-  counts = run.counts;
-}
+-- The text of what two runs have given back, or the first refusal. Runs of a map that has been read refuse nothing (document 01, "Planning
+-- file"; document 02, paper 3).
+unfoldable pub runs_text : (nodes arcs : ℕ) → Result BothRuns Fault → (distances parents : List ℕ) → List ℕ
+runs_text nodes arcs (Ok both) distances parents =
+    accepted_text nodes arcs both.one.reached both.one.counts.decreases
+    both.one.buckets both.one.counts.placements both.one.counts.looks both.one.counts.reads
+    both.two.buckets both.two.counts.placements both.two.counts.looks both.two.counts.reads distances parents
+runs_text nodes arcs (Err fault) distances parents = refused_text fault
 
--- The text of what two runs have returned. Runs of a map that has been read refuse nothing (document 01, "Planning file"; document 02,
--- paper 3).
-unfoldable pub runs_text : (nodes arcs : ℕ) → (first second : Numbers) → (distances parents : List ℕ) → List ℕ
-runs_text nodes arcs first second distances parents =
-    cond (eqb first.returned 0)
-    (cond (eqb second.returned 0)
-    (accepted_text nodes arcs first.reached first.counts.decreases
-    first.buckets first.counts.placements first.counts.looks first.counts.reads
-    second.buckets second.counts.placements second.counts.looks second.counts.reads distances parents)
-    (refused_text second.returned second.place))
-    (refused_text first.returned first.place)
-
--- What the runs of the map at the front of the lists are given: n nodes, m arcs, C and the source (document 01, "Planning file").
-abbrev pub map_inputs : (n m C source : ℕ) → PlanLists → Inputs
-map_inputs n m C source l = inputs n C source (take (n + 1) l.starts) (take m l.heads) (take m l.costs) (take n l.holds)
+-- What the runs of the map at the front of the lists are given, which line 1 tells: n nodes, m arcs, C and the source (document 01,
+-- "Planning file").
+abbrev pub map_inputs : PlanHeader → PlanLists → Inputs
+map_inputs header l =
+    inputs header.nodes header.ceiling header.source.0
+    (take (header.nodes + 1) l.starts) (take header.arcs l.heads) (take header.arcs l.costs) (take header.nodes l.holds)
 
 -- How long the lists are that the runs fill (document 01, "What a call returns").
 abbrev pub plan_lengths : PlanLists → Lengths
 plan_lengths l = lengths_for (length l.distances) (length l.parents) (length l.roster) (length l.work)
 
 -- A map that has been read into the lists, which the run of this kind of heap accepts (document 01, "Planning file").
-pub record MapRunnable (L : Levels) (n m C source : ℕ) (l : PlanLists) : Type 0 where
-  pub starts_fit : n + 1 ≤ length l.starts
-  pub heads_fit : m ≤ length l.heads
-  pub costs_fit : m ≤ length l.costs
-  pub holds_fit : n ≤ length l.holds
-  pub nodes_fit : n ≤ 512
-  pub accepted : first_fault (run_checks L (map_inputs n m C source l) (plan_lengths l)) ≡ Passed
+pub record MapRunnable (L : Levels) (header : PlanHeader) (l : PlanLists) : Type 0 where
+  pub starts_fit : header.nodes + 1 ≤ length l.starts
+  pub heads_fit : header.arcs ≤ length l.heads
+  pub costs_fit : header.arcs ≤ length l.costs
+  pub holds_fit : header.nodes ≤ length l.holds
+  pub nodes_fit : header.nodes ≤ 512
+  pub accepted : first_fault (run_checks L (map_inputs header l) (plan_lengths l)) ≡ Ok tt
 
 -- One that both runs accept (document 01, "Planning file").
-pub record BothRunnable (n m C source K : ℕ) (l : PlanLists) : Type 0 where
-  pub one_level : MapRunnable one n m C source l
-  pub two_level : MapRunnable (two K) n m C source l
+pub record BothRunnable (header : PlanHeader) (l : PlanLists) : Type 0 where
+  pub one_level : MapRunnable One header l
+  pub two_level : MapRunnable (Two header.segments) header l
 
--- Both runs with K are made, and have returned these numbers (document 01, "What a call returns").
-pub record BothReturned (K : ℕ) (I : Inputs) (l l' : PlanLists) (first second : Numbers) : Type 0 where
-  pub first_numbers : first ≡ run_numbers Passed (heap_buckets one I.ceiling) (steps_of one I)
-  pub second_numbers : second ≡ run_numbers Passed (heap_buckets (two K) I.ceiling) (steps_of (two K) I)
-  pub left : RunLeft Passed (two K) I (lent_of l) (lent_of l')
+-- Both runs with K are made, and have given back these numbers (document 01, "What a call returns").
+pub record BothReturned (K : ℕ) (I : Inputs) (l l' : PlanLists) (answer : Result BothRuns Fault) : Type 0 where
+  pub both : BothRuns
+  pub accepted : answer ≡ Ok both
+  pub first_numbers : numbers_of (Ok both.one) ≡ run_numbers (Ok tt) (heap_buckets One I.ceiling) (steps_of One I)
+  pub second_numbers : numbers_of (Ok both.two) ≡ run_numbers (Ok tt) (heap_buckets (Two K) I.ceiling) (steps_of (Two K) I)
+  pub left : RunLeft (Ok tt) (Two K) I (lent_of l) (lent_of l')
 
 -- Both runs of m arcs with K are made and told (document 01, "Planning file").
 pub record BothRun (m K : ℕ) (I : Inputs) (l l' : PlanLists) (output output' : List ℕ) (written : ℕ) : Type 0 where
   pub text : Writes 0 (heaps_text m K I) output output' written
-  pub left : RunLeft Passed (two K) I (lent_of l) (lent_of l')
+  pub left : RunLeft (Ok tt) (Two K) I (lent_of l) (lent_of l')

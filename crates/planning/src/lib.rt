@@ -2,114 +2,45 @@
 #![tactic(auto)]
 
 ghost use Rattle.std.specs.Prelude.{◌≡◌, ◌+◌, ◌*◌, ◌≤◌, length};
-ghost use Rattle.model.specs.Answers.{numbers_of};
 ghost use Rattle.fields.specs.Writing.{Writes};
-ghost use Rattle.planning.specs.Planning.{plan_lists, PlanningPromised, PlanLends, told, runs_text, map_inputs, BothRunnable, BothReturned, BothRun};
+ghost use Rattle.planning.specs.Planning.{plan_lists, PlanningPromised, PlanLends, runs_text, map_inputs, BothRunnable, BothReturned, BothRun};
 
-use model::{Counts, Node, RunAnswer};
-use reader::PlanAnswer;
-use report::HeapNumbers;
+use model::{Fault, Kind, Run};
+use reader::PlanHeader;
+use theory::Levels;
 
-// What a run has returned: number and place, then its numbers.
-#[derive(Clone, Copy)]
-pub struct RunNumbers {
-    pub returned: u32,
-    pub place: usize,
-    pub reached: u32,
-    pub buckets: u32,
-    pub counts: Counts,
+// What both runs have given back.
+#[derive(Clone, Copy, Debug, PartialEq, Eq)]
+pub struct BothRuns {
+    pub one: Run,
+    pub two: Run,
 }
 
-// What both runs have returned.
-#[derive(Clone, Copy)]
-pub struct BothNumbers {
-    pub one: RunNumbers,
-    pub two: RunNumbers,
-}
-
-fn numbers_of(answer: RunAnswer) -> RunNumbers
-    ensures { told result ≡ numbers_of answer }
-{
-    match answer {
-        RunAnswer::Accepted {
-            reached,
-            buckets,
-            counts,
-        } => RunNumbers {
-            returned: 0,
-            place: 0,
-            reached,
-            buckets,
-            counts,
-        },
-        RunAnswer::Refused { number, place } => RunNumbers {
-            returned: number,
-            place,
-            reached: 0,
-            buckets: 0,
-            counts: Counts {
-                decreases: 0,
-                placements: 0,
-                looks: 0,
-                reads: 0,
-            },
-        },
-    }
-}
-
-// What both runs have returned. A run's refusal would be told too, though none can come.
+// A run's refusal would be told too, though none can come.
 fn write_runs(
     output: &mut [u8],
     nodes: u32,
     arcs: u32,
-    one: RunNumbers,
-    two: RunNumbers,
+    runs: Result<BothRuns, Fault>,
     distances: &[u32],
     parents: &[u32],
 ) -> usize
     requires nodes_in_bounds { 512 + 64 * nodes ≤ length output.old }
-    requires nodes_in_bounds_2 { (nodes ≤ length distances.now) × (nodes ≤ length parents.now) }
-    ensures { Writes 0 (runs_text nodes arcs (told one) (told two) distances.now parents.now)
+    requires lists_hold_nodes { (nodes ≤ length distances.now) × (nodes ≤ length parents.now) }
+    ensures { Writes 0 (runs_text nodes arcs runs distances.now parents.now)
         output.old output.new result }
 {
-    if one.returned != 0 {
-        return report::write_refusal(output, one.returned, one.place);
+    match runs {
+        Ok(both) => report::write_answer(
+            output, nodes, arcs, both.one, both.two, distances, parents,
+        ),
+        Err(refused) => report::write_refusal(output, refused),
     }
-    if two.returned != 0 {
-        return report::write_refusal(output, two.returned, two.place);
-    }
-    let first = HeapNumbers {
-        buckets: one.buckets,
-        placements: one.counts.placements,
-        looks: one.counts.looks,
-        reads: one.counts.reads,
-    };
-    let second = HeapNumbers {
-        buckets: two.buckets,
-        placements: two.counts.placements,
-        looks: two.counts.looks,
-        reads: two.counts.reads,
-    };
-    report::write_answer(
-        output,
-        nodes,
-        arcs,
-        one.reached,
-        one.counts.decreases,
-        first,
-        second,
-        distances,
-        parents,
-    )
 }
 
 // Both runs of the map in the lists, the two-level run behind the one-level run.
 fn run_both(
-    nodes: u32,
-    arcs: u32,
-    ceiling: u32,
-    source: Node,
-    segments: u32,
+    header: PlanHeader,
     starts: &[u32],
     heads: &[u32],
     costs: &[u32],
@@ -118,42 +49,58 @@ fn run_both(
     parents: &mut [u32],
     roster: &mut [u32],
     work: &mut [u32],
-) -> BothNumbers
-    requires { BothRunnable nodes arcs ceiling source.0 segments
+) -> Result<BothRuns, Fault>
+    requires { BothRunnable header
         (plan_lists starts.now heads.now costs.now holds.now distances.old parents.old roster.old work.old) }
-    ensures { BothReturned segments
-        (map_inputs nodes arcs ceiling source.0 (plan_lists starts.now heads.now costs.now holds.now distances.old parents.old roster.old work.old))
+    ensures { BothReturned header.segments
+        (map_inputs header (plan_lists starts.now heads.now costs.now holds.now distances.old parents.old roster.old work.old))
         (plan_lists starts.now heads.now costs.now holds.now distances.old parents.old roster.old work.old)
         (plan_lists starts.now heads.now costs.now holds.now distances.new parents.new roster.new work.new)
-        (told result.one) (told result.two) }
+        result }
 {
-    let n = nodes as usize;
-    let m = arcs as usize;
+    let n = header.nodes as usize;
+    let m = header.arcs as usize;
     let map_starts = &starts[..n + 1];
     let map_heads = &heads[..m];
     let map_costs = &costs[..m];
     let map_holds = &holds[..n];
-    let one = runs::one_level(
-        nodes, ceiling, source, map_starts, map_heads, map_costs, map_holds, distances, parents,
-        roster, work,
-    );
-    let two = runs::two_level(
-        nodes, ceiling, source, segments, map_starts, map_heads, map_costs, map_holds, distances,
-        parents, roster, work,
-    );
-    BothNumbers {
-        one: numbers_of(one),
-        two: numbers_of(two),
-    }
+    let one = runs::run(
+        Levels::One,
+        header.nodes,
+        header.ceiling,
+        header.source,
+        map_starts,
+        map_heads,
+        map_costs,
+        map_holds,
+        distances,
+        parents,
+        roster,
+        work,
+    )?;
+    let levels = Levels::Two {
+        segments: header.segments,
+    };
+    let two = runs::run(
+        levels,
+        header.nodes,
+        header.ceiling,
+        header.source,
+        map_starts,
+        map_heads,
+        map_costs,
+        map_holds,
+        distances,
+        parents,
+        roster,
+        work,
+    )?;
+    Ok(BothRuns { one, two })
 }
 
 // Both runs of the map in the lists, and their answer.
 fn plan_map(
-    nodes: u32,
-    arcs: u32,
-    ceiling: u32,
-    source: Node,
-    segments: u32,
+    header: PlanHeader,
     starts: &[u32],
     heads: &[u32],
     costs: &[u32],
@@ -164,22 +111,19 @@ fn plan_map(
     work: &mut [u32],
     output: &mut [u8],
 ) -> usize
-    requires both_runnable { BothRunnable nodes arcs ceiling source.0 segments
+    requires both_runnable { BothRunnable header
         (plan_lists starts.now heads.now costs.now holds.now distances.old parents.old roster.old work.old) }
     requires output_len { length output.old ≡ 33280 }
-    ensures { BothRun arcs segments
-        (map_inputs nodes arcs ceiling source.0 (plan_lists starts.now heads.now costs.now holds.now distances.old parents.old roster.old work.old))
+    ensures { BothRun header.arcs header.segments
+        (map_inputs header (plan_lists starts.now heads.now costs.now holds.now distances.old parents.old roster.old work.old))
         (plan_lists starts.now heads.now costs.now holds.now distances.old parents.old roster.old work.old)
         (plan_lists starts.now heads.now costs.now holds.now distances.new parents.new roster.new work.new)
         output.old output.new result }
 {
-    let both = run_both(
-        nodes, arcs, ceiling, source, segments, starts, heads, costs, holds, distances, parents,
-        roster, work,
+    let runs = run_both(
+        header, starts, heads, costs, holds, distances, parents, roster, work,
     );
-    let one = both.one;
-    let two = both.two;
-    write_runs(output, nodes, arcs, one, two, distances, parents)
+    write_runs(output, header.nodes, header.arcs, runs, distances, parents)
 }
 
 // The lists as slices.
@@ -202,19 +146,16 @@ fn answer_in(
         output.old output.new result }
 {
     if bytes.len() > 65536 {
-        return report::write_refusal(output, 13, 0);
+        let long = Fault {
+            kind: Kind::InputSize,
+            place: 0,
+        };
+        return report::write_refusal(output, long);
     }
     match reader::read(bytes, starts, heads, costs, holds) {
-        PlanAnswer::Refused { number, place } => report::write_refusal(output, number, place),
-        PlanAnswer::Read {
-            nodes,
-            arcs,
-            ceiling,
-            source,
-            segments,
-        } => plan_map(
-            nodes, arcs, ceiling, source, segments, starts, heads, costs, holds, distances,
-            parents, roster, work, output,
+        Err(fault) => report::write_refusal(output, fault),
+        Ok(header) => plan_map(
+            header, starts, heads, costs, holds, distances, parents, roster, work, output,
         ),
     }
 }

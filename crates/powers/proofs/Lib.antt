@@ -1,3 +1,4 @@
+pub mod Copied
 pub mod Rule
-mod Table
+pub mod Table
 pub mod Used

@@ -23,9 +23,10 @@ pub fn row(segments: u32) -> [u32; 21]
 
 // The row of K = segments, from where it begins in the table to where the next one does. The rule of the whole table is asked for, so that it is
 // computed once, where `row` hands in the constants. That no number is 0 is asked for beside it: no row needs that, a small table does.
+#[tactic(auto, using(crate::proofs::Table::row_in))]
 fn stored(table: &[u32], starts: &[u16; 64], segments: u32) -> [u32; 21]
-    requires t { T (non_zero table.now) }
-    requires t_2 { T (rows_stand table.now starts.now 2 63) }
+    requires no_zero { T (non_zero table.now) }
+    requires rows_stand { T (rows_stand table.now starts.now 2 63) }
     requires le_segments { 2 ≤ segments }
     requires segments_bound { segments ≤ 64 }
     ensures { result ≡ power_row segments }
@@ -43,10 +44,8 @@ fn with_zeros(words: &[u32]) -> [u32; 21]
     ensures { result ≡ padded words.now }
 {
     let mut row = [0; 21];
-    let mut i = 0;
-    while i < words.len() {
-        row[i] |= words[i];
-        i += 1;
+    for (i, word) in words.iter().enumerate() {
+        row[i] |= *word;
     }
     row
 }

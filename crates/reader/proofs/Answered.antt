@@ -5,30 +5,26 @@ use Prim.Native.Nat.{ℕ, ◌+◌, ◌≤◌}
 use native.Mathlib.Omega.{arith}
 use lib.ListN.{length, drop, length-drop}
 use lib.Seq.{drop-drop}
-use Rattle.model.specs.declared.Check.{Check}
-use Rattle.model.specs.declared.Check.TheVariants.{Passed, Fault}
+use Rattle.model.specs.Answers.{Check, words_after}
+use Rattle.std.specs.Prelude.{Ok, Err, Option, Some}
+use Rattle.model.specs.declared.Fault.{Fault}
 use Rattle.model.specs.declared.Node.{Node}
-use Rattle.model.specs.Answers.{words_after}
 use Rattle.checks.specs.Checks.{first_fault}
 use Rattle.grouping.specs.Filled.{Filled}
 use Rattle.plan_lines.specs.declared.HeaderLine.{HeaderLine}
-use Rattle.plan_lines.specs.declared.HeaderLine.TheVariants.{HeaderRead}
 use Rattle.plan_lines.specs.Lines.{header_line}
 use Rattle.plan_lines.specs.Told.{lines_taken, behind_arcs, lines_arcs, node_holds}
 use Rattle.plan_lines.proofs.Reach.{taken_within}
 use Rattle.plan_checks.specs.Checking.{lines_checks, header_checks, plan_check}
-use Rattle.reader.specs.declared.PlanAnswer.{PlanAnswer}
-use Rattle.reader.specs.declared.PlanAnswer.TheVariants.{Read, Refused}
 use Rattle.reader.specs.Plans.{Plan}
-use Rattle.reader.specs.Promise.{PlanAnswered, HeaderAnswered, PlanPromised}
+use Rattle.reader.specs.Promise.{PlanAnswer, plan_header, PlanAnswered, HeaderAnswered, PlanPromised}
 use Rattle.reader.specs.Filling.{Fillable, HoldsFillable}
 use Rattle.reader.proofs.Passed.{file_passed}
 
-pub refused_answered : {check : Check} {plan : Plan} {starts heads costs holds : List ℕ} {number place : ℕ} → check ≡ Fault number place
-    → PlanAnswered check plan starts heads costs holds starts heads costs holds (Refused number place)
+pub refused_answered : {check : Check} {plan : Plan} {starts heads costs holds : List ℕ} {fault : Fault} → check ≡ Err fault
+    → PlanAnswered check plan starts heads costs holds starts heads costs holds (Err fault)
 refused_answered e = rw e (record {
-  read = refl;
-  numbers = refl;
+  answered = refl;
   starts_after = refl;
   heads_after = refl;
   costs_after = refl;
@@ -36,7 +32,7 @@ refused_answered e = rw e (record {
 })
 
 -- the line that is answered is line 1 of the bytes
-pub file_answered : (bytes starts heads costs holds : List ℕ) {line : HeaderLine} {starts' heads' costs' holds' : List ℕ} {answer : PlanAnswer}
+pub file_answered : (bytes starts heads costs holds : List ℕ) {line : Option HeaderLine} {starts' heads' costs' holds' : List ℕ} {answer : PlanAnswer}
     → header_line bytes ≡ line → HeaderAnswered line bytes starts heads costs holds starts' heads' costs' holds' answer
     → PlanPromised bytes starts heads costs holds starts' heads' costs' holds' answer
 unfolding plan_check
@@ -58,7 +54,7 @@ module _ (n m C K held at : ℕ) (source : Node) (bytes starts heads costs holds
   checks =
       header_checks n m C source.0 K (length starts) (length heads) (length costs) (length holds) ++ lines_checks n m C held (drop at bytes)
 
-  pub fillable : at ≤ length bytes → first_fault checks ≡ Passed → PlanFillable
+  pub fillable : at ≤ length bytes → first_fault checks ≡ Ok tt → PlanFillable
   fillable within passed =
       let p = file_passed n m C source.0 K held (drop at bytes) (length starts) (length heads) (length costs) (length holds) passed in
       record {
@@ -77,15 +73,14 @@ module _ (n m C K held at : ℕ) (source : Node) (bytes starts heads costs holds
         };
       }
 
-  pub read_answered : {starts' heads' costs' holds' : List ℕ} {behind : ℕ} → first_fault checks ≡ Passed
+  pub read_answered : {starts' heads' costs' holds' : List ℕ} {behind : ℕ} → first_fault checks ≡ Ok tt
       → Filled n (lines_arcs m (drop at bytes)) starts heads costs starts' heads' costs' → behind ≡ at + lines_taken 3 m (drop at bytes)
-      → holds' ≡ words_after Passed (node_holds held n (drop behind bytes)) holds
-      → HeaderAnswered (HeaderRead n m C source.0 K held at) bytes starts heads costs holds starts' heads' costs' holds' (Read n m C source K)
+      → holds' ≡ words_after (Ok tt) (node_holds held n (drop behind bytes)) holds
+      → HeaderAnswered (Some (record { nodes = n; arcs = m; ceiling = C; source = source.0; segments = K; held = held; taken = at })) bytes starts heads costs holds starts' heads' costs' holds' (Ok (plan_header n m C source.0 K))
   read_answered passed f so h =
       rw passed
       (record {
-        read = refl;
-        numbers = refl;
+        answered = refl;
         starts_after = f.starts_filled;
         heads_after = f.heads_filled;
         costs_after = f.costs_filled;

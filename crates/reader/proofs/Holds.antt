@@ -7,9 +7,8 @@ use native.Mathlib.Numerals.{add-one}
 use native.Mathlib.Omega.{arith}
 use lib.ListN.{length, drop, set, length-append, length-replicate}
 use lib.Seq.{drop-drop}
-use Rattle.model.specs.declared.Check.TheVariants.{Passed}
+use Rattle.std.specs.Prelude.{Ok, None, Some}
 use Rattle.model.specs.Answers.{words_after}
-use Rattle.plan_lines.specs.declared.HoldLine.TheVariants.{NoHold, HoldRead}
 use Rattle.plan_lines.specs.Lines.{hold_line}
 use Rattle.plan_lines.specs.Told.{lines_holds, node_holds}
 use Rattle.plan_lines.proofs.Reach.{Reached, reached_start, reached_next}
@@ -21,7 +20,7 @@ use Rattle.reader.proofs.Lists.{filled_next, filled_length, filled_end}
 -- ---- told or not
 
 -- Holds of 0 stand at the front of the list.
-pub zeros_filled : (held n : ℕ) (bytes words : List ℕ) → held ≡ 0 → between words 0 n 0 ≡ words_after Passed (node_holds held n bytes) words
+pub zeros_filled : (held n : ℕ) (bytes words : List ℕ) → held ≡ 0 → between words 0 n 0 ≡ words_after (Ok tt) (node_holds held n bytes) words
 zeros_filled held n bytes words none = rw (none, sub-zero, length-replicate {A = ℕ} n 0) refl
 
 pub holds_told : (held n : ℕ) (bytes : List ℕ) → (held ≡ 0 → ⊥) → node_holds held n bytes ≡ lines_holds n bytes
@@ -69,12 +68,12 @@ module _ {n : ℕ} {bytes : List ℕ} {from : ℕ} {holds₀ holds : List ℕ} {
     all_left : lines_holds n (drop from bytes) ≡ p.done ++ lines_holds (suc (n - suc v)) (drop at bytes)
     all_left = rw left at p.all
 
-    pub hold_read : hold_line (drop at bytes) ≡ NoHold → ⊥
+    pub hold_read : hold_line (drop at bytes) ≡ None → ⊥
     hold_read e =
         let behind = lines_holds (suc (n - suc v)) (drop at bytes) in
         hold_there (n - suc v) (drop at bytes) (omega (arith, ap length all_left, length-append p.done behind, p.count, p.given.count)) e
 
-    pub hold_next : {hold taken : ℕ} → hold_line (drop at bytes) ≡ HoldRead hold taken
+    pub hold_next : {hold taken : ℕ} → hold_line (drop at bytes) ≡ Some (record { hold = hold; taken = taken })
         → HoldsProgress n bytes from holds₀ (set holds v hold) (at + taken) (v + 1)
     hold_next {hold} {taken} e =
         let behind = lines_holds (n - suc v) (drop taken (drop at bytes)) in
@@ -93,7 +92,7 @@ module _ {n : ℕ} {bytes : List ℕ} {from : ℕ} {holds₀ holds : List ℕ} {
           holds_so = filled_next p.done holds₀ holds v p.count p.holds_so hold (omega (arith, p.given.holds_fit));
         })
 
-  pub holds_end : n ≤ v → holds ≡ words_after Passed (lines_holds n (drop from bytes)) holds₀
+  pub holds_end : n ≤ v → holds ≡ words_after (Ok tt) (lines_holds n (drop from bytes)) holds₀
   unfolding lines_holds
   holds_end l =
       let none_left : n - v ≡ 0 = omega arith in

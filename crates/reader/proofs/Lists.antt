@@ -7,7 +7,7 @@ use native.Mathlib.Numerals.{add-one}
 use native.Mathlib.Omega.{arith}
 use lib.ListN.{length, get_or, take, drop, set, replicate, length-append, length-replicate, length-drop, take-append-drop}
 use lib.Seq.{length-take-le, drop-cons, set_at}
-use Rattle.model.specs.declared.Check.TheVariants.{Passed}
+use Rattle.std.specs.Prelude.{Ok}
 use Rattle.model.specs.Answers.{words_after}
 use Rattle.reader.specs.Filling.{between}
 
@@ -28,7 +28,7 @@ module _ (filled words₀ words : List ℕ) (i : ℕ) (e : length filled ≡ i) 
   pub filled_length : i ≤ length words₀ → length words ≡ length words₀
   filled_length l = ap length so ∙ simp (length-append, length-drop) (omega arith)
 
-  pub filled_end : (all : List ℕ) → all ≡ filled → words ≡ words_after Passed all words₀
+  pub filled_end : (all : List ℕ) → all ≡ filled → words ≡ words_after (Ok tt) all words₀
   filled_end all same = so ∙ rw (same, e)
 
 -- ---- words between two places

@@ -4,7 +4,7 @@ use mathlib.Core.List.{List, ◌++◌}
 use Prim.Native.Nat.{ℕ, zero, suc, ◌+◌, ◌≤◌, ◌<◌}
 use native.Mathlib.Omega.{arith}
 use lib.ListN.{length-replicate}
-use Rattle.model.specs.declared.Check.TheVariants.{Passed}
+use Rattle.std.specs.Prelude.{Ok}
 use Rattle.theory.proofs.Lists.{get_d_replicate_same}
 use Rattle.checks.specs.Checks.{first_fault, lent_checks}
 use Rattle.checks.proofs.Order.{AllPass, none, more, passed_all}
@@ -15,7 +15,7 @@ use Rattle.plan_checks.specs.Checking.{arcs_check, hold_lines_check, behind_chec
 use Rattle.plan_checks.proofs.Held.{HoldsShown, holds_shown}
 
 -- Holds that are not told are 0 and pass too.
-node_holds_shown : (C m held n : ℕ) (bytes : List ℕ) → hold_lines_check C m (held_lines held n) 0 bytes ≡ Passed → HoldsShown C n (node_holds held n bytes)
+node_holds_shown : (C m held n : ℕ) (bytes : List ℕ) → hold_lines_check C m (held_lines held n) 0 bytes ≡ Ok tt → HoldsShown C n (node_holds held n bytes)
 node_holds_shown C m zero n bytes passed = record {
   count = length-replicate n 0;
   most = λ v l. omega (arith, get_d_replicate_same {A = ℕ} n v 0);
@@ -35,12 +35,12 @@ pub record FilePassed (n m C source K held : ℕ) (lines : List ℕ) (starts hea
   pub heads_fit : m ≤ heads
   pub costs_fit : m ≤ costs
   pub holds_fit : n ≤ holds
-  pub arcs_passed : arcs_check n C m 0 0 lines ≡ Passed
+  pub arcs_passed : arcs_check n C m 0 0 lines ≡ Ok tt
   pub held_shown : HoldsShown C n (node_holds held n (behind_arcs m lines))
-  pub sums_passed : arc_sums_check C (lines_arcs m lines) (node_holds held n (behind_arcs m lines)) ≡ Passed
+  pub sums_passed : arc_sums_check C (lines_arcs m lines) (node_holds held n (behind_arcs m lines)) ≡ Ok tt
 
 module _ (n m C source K held : ℕ) (lines : List ℕ) (starts heads costs holds : ℕ) where
-  pub file_passed : first_fault (header_checks n m C source K starts heads costs holds ++ lines_checks n m C held lines) ≡ Passed
+  pub file_passed : first_fault (header_checks n m C source K starts heads costs holds ++ lines_checks n m C held lines) ≡ Ok tt
       → FilePassed n m C source K held lines starts heads costs holds
   unfolding header_checks lent_checks lines_checks behind_checks
   file_passed passed = go (passed_all _ passed)
@@ -49,8 +49,8 @@ module _ (n m C source K held : ℕ) (lines : List ℕ) (starts heads costs hold
           → FilePassed n m C source K held lines starts heads costs holds
       go (more by-1 (more by_4 (more by_2 (more by-3 (more by-9 (more first (more second (more third (more fourth
           (more arcs (more held_lines_lem (more left_over (more sums none))))))))))))) =
-          let nodes = passed_range 1 n 1 4096 by-1 in
-          let segments = passed_range 9 K 2 64 by-9 in
+          let nodes = passed_range _ n 1 4096 by-1 in
+          let segments = passed_range _ K 2 64 by-9 in
           record {
             nodes_low = nodes.0;
             nodes_high = nodes.1;

@@ -7,7 +7,7 @@ use native.Mathlib.Numerals.{add-one}
 use native.Mathlib.Omega.{arith}
 use lib.ListN.{length, take, drop, set, replicate, length-append, length-map, length-drop}
 use lib.Seq.{take_at, drop-append-add, drop-drop}
-use Rattle.model.specs.declared.Check.TheVariants.{Passed}
+use Rattle.std.specs.Prelude.{Ok, None, Some}
 use Rattle.model.specs.Answers.{words_after}
 use Rattle.grouping.specs.Groups.{keys_below, starts_from}
 use Rattle.grouping.specs.Arcs.{PlanArc, tail_key, tails_below, numbered}
@@ -15,7 +15,6 @@ use Rattle.grouping.specs.Filled.{Filled}
 use Rattle.grouping.proofs.Groups.{below_append, below_one}
 use Rattle.grouping.proofs.Starts.{starts_length, starts_split, starts_same}
 use Rattle.grouping.proofs.Order.{Rising, more, none_below, in_order}
-use Rattle.plan_lines.specs.declared.ArcLine.TheVariants.{NoArc, ArcRead}
 use Rattle.plan_lines.specs.Lines.{arc_line}
 use Rattle.plan_lines.specs.Told.{lines_arcs}
 use Rattle.plan_lines.proofs.Reach.{Reached, reached_start, reached_next}
@@ -41,7 +40,7 @@ module _ (f : PlanArc → ℕ) (done : List PlanArc) (words₀ words : List ℕ)
   column_length : i ≤ length words₀ → length words ≡ length words₀
   column_length l = filled_length (map f done) words₀ words i long so l
 
-  column_end : (arcs : List PlanArc) → arcs ≡ done → words ≡ words_after Passed (map f arcs) words₀
+  column_end : (arcs : List PlanArc) → arcs ≡ done → words ≡ words_after (Ok tt) (map f arcs) words₀
   column_end arcs same = filled_end (map f done) words₀ words i long so (map f arcs) (ap (map f) same)
 
 -- ---- the starts
@@ -83,7 +82,7 @@ pub record Progress (n m : ℕ) (bytes : List ℕ) (from : ℕ) (starts₀ heads
   pub before : ℕ
   pub done : List PlanArc
   pub reached : Reached 3 m bytes from at i
-  pub passed : arcs_check n given.ceiling (m - i) i before (drop at bytes) ≡ Passed
+  pub passed : arcs_check n given.ceiling (m - i) i before (drop at bytes) ≡ Ok tt
   pub all : lines_arcs m (drop from bytes) ≡ done ++ lines_arcs (m - i) (drop at bytes)
   pub count : length done ≡ i
   pub next_low : next ≤ suc before
@@ -128,13 +127,13 @@ module _ {n m : ℕ} {bytes : List ℕ} {from : ℕ} {starts₀ heads₀ costs�
     left : m - i ≡ suc (m - suc i)
     left = omega arith
 
-    line_passed : arcs_check n p.given.ceiling (suc (m - suc i)) i p.before (drop at bytes) ≡ Passed
+    line_passed : arcs_check n p.given.ceiling (suc (m - suc i)) i p.before (drop at bytes) ≡ Ok tt
     line_passed = rw left at p.passed
 
-    pub line_read : arc_line (drop at bytes) ≡ NoArc → ⊥
+    pub line_read : arc_line (drop at bytes) ≡ None → ⊥
     line_read e = line_there n p.given.ceiling (m - suc i) i p.before (drop at bytes) line_passed e
 
-    module _ {tail head cost taken : ℕ} (e : arc_line (drop at bytes) ≡ ArcRead tail head cost taken) where
+    module _ {tail head cost taken : ℕ} (e : arc_line (drop at bytes) ≡ Some (record { tail = tail; head = head; cost = cost; taken = taken })) where
       pub shown : LineShown n p.given.ceiling (m - suc i) i p.before (drop at bytes) tail head cost taken
       shown = line_shown n p.given.ceiling (m - suc i) i p.before (drop at bytes) line_passed e
 

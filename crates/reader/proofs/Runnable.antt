@@ -4,13 +4,14 @@ use mathlib.Core.List.{List}
 use Prim.Native.Nat.{ℕ, ◌+◌, ◌≤◌}
 use native.Mathlib.Omega.{arith}
 use lib.ListN.{length, drop}
-use Rattle.model.specs.declared.Check.TheVariants.{Passed}
-use Rattle.theory.specs.Runs.{ValidInputs, Levels, two, Allowed, work_words}
+use Rattle.std.specs.Prelude.{Ok, Option, None, Some}
+use Rattle.theory.specs.Runs.{ValidInputs, Allowed, work_words}
+use Rattle.theory.specs.declared.Levels.{Levels}
+use Rattle.theory.specs.declared.Levels.TheVariants.{Two}
 use Rattle.checks.specs.Checks.{first_fault, run_checks, Lengths}
 use Rattle.checks.proofs.Valid.{ready_passed}
 use Rattle.grouping.proofs.Valid.{arcs_ends, heads_length, costs_length, held_valid}
 use Rattle.plan_lines.specs.declared.HeaderLine.{HeaderLine}
-use Rattle.plan_lines.specs.declared.HeaderLine.TheVariants.{NoHeader, HeaderRead}
 use Rattle.plan_lines.specs.Lines.{header_line}
 use Rattle.plan_lines.specs.Told.{behind_arcs, lines_arcs, node_holds}
 use Rattle.plan_sums.proofs.Passed.{sums_in}
@@ -35,7 +36,7 @@ pub record Runnable (plan : Plan) (starts heads costs holds : ℕ) : Type 0 wher
 
 module _ (bytes : List ℕ) (starts heads costs holds : ℕ) where
   header_runnable : (n m C source K held taken : ℕ) → FilePassed n m C source K held (drop taken bytes) starts heads costs holds
-      → Runnable (plan_under (header_numbers (HeaderRead n m C source K held taken)) bytes) starts heads costs holds
+      → Runnable (plan_under (header_numbers (Some (record { nodes = n; arcs = m; ceiling = C; source = source; segments = K; held = held; taken = taken }))) bytes) starts heads costs holds
   header_runnable n m C source K held taken p =
       let lines = drop taken bytes in
       let read = lines_arcs m lines in
@@ -58,13 +59,14 @@ module _ (bytes : List ℕ) (starts heads costs holds : ℕ) where
         holds_fit = p.holds_fit;
       }
 
-  line_runnable : (line : HeaderLine) → header_line_check line bytes starts heads costs holds ≡ Passed
+  line_runnable : (line : Option HeaderLine) → header_line_check line bytes starts heads costs holds ≡ Ok tt
       → Runnable (plan_under (header_numbers line) bytes) starts heads costs holds
-  line_runnable NoHeader e = absurd (let z : ◌≡◌ {A = ℕ} 0 1 = cc in omega arith)
-  line_runnable (HeaderRead n m C source K held taken) e =
-      header_runnable n m C source K held taken (file_passed n m C source K held (drop taken bytes) starts heads costs holds e)
+  line_runnable None e = absurd (let z : ◌≡◌ {A = ℕ} 0 1 = cc in omega arith)
+  line_runnable (Some line) e =
+      header_runnable line.nodes line.arcs line.ceiling line.source line.segments line.held line.taken
+      (file_passed line.nodes line.arcs line.ceiling line.source line.segments line.held (drop line.taken bytes) starts heads costs holds e)
 
-  pub read_runnable : plan_check bytes starts heads costs holds ≡ Passed → Runnable (plan_of bytes) starts heads costs holds
+  pub read_runnable : plan_check bytes starts heads costs holds ≡ Ok tt → Runnable (plan_of bytes) starts heads costs holds
   unfolding plan_check
   read_runnable e = line_runnable (header_line bytes) e
 
@@ -74,9 +76,9 @@ module _ (bytes : List ℕ) (starts heads costs holds : ℕ) where
 module _ {plan : Plan} {starts heads costs holds : ℕ} (R : Runnable plan starts heads costs holds) where
   pub runs_pass : (L : Levels) → Allowed L → (room : Lengths) → plan.header.nodes ≤ room.distances → plan.header.nodes ≤ room.parents
       → plan.header.nodes ≤ room.roster → work_words L plan.header.nodes ≤ room.work
-      → first_fault (run_checks L (plan_run plan) room) ≡ Passed
+      → first_fault (run_checks L (plan_run plan) room) ≡ Ok tt
   runs_pass L allowed room d p r w =
       ready_passed (record { valid = R.valid; allowed = allowed; distances_fit = d; parents_fit = p; roster_fit = r; work_fit = w })
 
-  pub file_allowed : Allowed (two plan.header.segments)
+  pub file_allowed : Allowed (Two plan.header.segments)
   file_allowed = (R.segments_low, R.segments_high)

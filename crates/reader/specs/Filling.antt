@@ -1,6 +1,5 @@
 -- The second pass: what it is given, and what it leaves (document 01, "Planning file").
-use Rattle.std.specs.Prelude.{ℕ, ◌+◌, ◌-◌, ◌≤◌, ◌≡◌, List, ◌++◌, length, take, drop, replicate}
-use Rattle.model.specs.declared.Check.TheVariants.{Passed}
+use Rattle.std.specs.Prelude.{ℕ, ◌+◌, ◌-◌, ◌≤◌, ◌≡◌, List, ◌++◌, length, take, drop, replicate, Ok}
 use Rattle.plan_lines.specs.Told.{node_holds}
 use Rattle.plan_checks.specs.Checking.{arcs_check}
 
@@ -8,7 +7,7 @@ use Rattle.plan_checks.specs.Checking.{arcs_check}
 -- call returns").
 pub record Fillable (n m : ℕ) (bytes : List ℕ) (at : ℕ) (starts heads costs : List ℕ) : Type 0 where
   pub ceiling : ℕ
-  pub passed : arcs_check n ceiling m 0 0 (drop at bytes) ≡ Passed
+  pub passed : arcs_check n ceiling m 0 0 (drop at bytes) ≡ Ok tt
   pub within : at ≤ length bytes
   pub starts_fit : n + 1 ≤ length starts
   pub heads_fit : m ≤ length heads

@@ -1,9 +1,8 @@
 -- The map of a planning file (document 01, "Planning file" and "What the planner holds and leaves out").
-use Rattle.std.specs.Prelude.{ℕ, List, drop}
+use Rattle.std.specs.Prelude.{ℕ, List, drop, Option, None, Some}
 use Rattle.theory.specs.Runs.{Inputs, inputs}
 use Rattle.grouping.specs.Arcs.{PlanArc, starts_of, heads_of, costs_of}
 use Rattle.plan_lines.specs.declared.HeaderLine.{HeaderLine}
-use Rattle.plan_lines.specs.declared.HeaderLine.TheVariants.{NoHeader, HeaderRead}
 use Rattle.plan_lines.specs.Lines.{header_line}
 use Rattle.plan_lines.specs.Told.{lines_arcs, behind_arcs, node_holds}
 
@@ -20,16 +19,16 @@ pub record Header : Type 0 where
   pub taken : ℕ
 
 -- The numbers of line 1; a file without one is refused, and its numbers count as 0 (document 01, "What a call returns").
-abbrev pub header_numbers : HeaderLine → Header
-header_numbers NoHeader = record { nodes = 0; count = 0; ceiling = 0; source = 0; segments = 0; held = 0; taken = 0 }
-header_numbers (HeaderRead n m C source K held taken) = record {
-  nodes = n;
-  count = m;
-  ceiling = C;
-  source = source;
-  segments = K;
-  held = held;
-  taken = taken;
+abbrev pub header_numbers : Option HeaderLine → Header
+header_numbers None = record { nodes = 0; count = 0; ceiling = 0; source = 0; segments = 0; held = 0; taken = 0 }
+header_numbers (Some line) = record {
+  nodes = line.nodes;
+  count = line.arcs;
+  ceiling = line.ceiling;
+  source = line.source;
+  segments = line.segments;
+  held = line.held;
+  taken = line.taken;
 }
 
 -- What a planning file tells: line 1's numbers, its arcs in the order of its lines, and a hold for each node (document 01, "Planning

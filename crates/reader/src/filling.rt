@@ -1,7 +1,6 @@
 // The second pass over a planning file: the lists are filled from lines that have passed their checks (document 01, "Planning file";
 // document 02, paper 2).
-ghost use Rattle.std.specs.Prelude.{◌≡◌, ◌+◌, ◌≤◌, length, drop};
-ghost use Rattle.model.specs.declared.Check.TheVariants.{Passed};
+ghost use Rattle.std.specs.Prelude.{◌≡◌, ◌+◌, ◌≤◌, length, drop, Ok};
 ghost use Rattle.model.specs.Answers.{words_after};
 ghost use Rattle.grouping.specs.Filled.{Filled};
 ghost use Rattle.plan_lines.specs.Told.{lines_taken, lines_arcs, lines_holds, node_holds};
@@ -24,17 +23,17 @@ pub fn fill(
     ensures lists { Filled n (lines_arcs arcs (drop at bytes.now)) starts.old heads.old costs.old
         starts.new heads.new costs.new }
 {
-    let count = arcs as usize;
     let mut line = at;
     let mut next = 0;
-    let mut i = 0;
-    while i < count {
-        let ArcLine::ArcRead {
-            tail,
-            head,
-            cost,
-            taken,
-        } = arc_line_at(bytes, line)
+    for i in 0..arcs as usize {
+        let Some(
+            ArcLine {
+                tail,
+                head,
+                cost,
+                taken,
+            },
+        ) = arc_line_at(bytes, line)
         else {
             return line;
         };
@@ -44,7 +43,6 @@ pub fn fill(
         costs[i] = cost;
         next = end;
         line += taken;
-        i += 1;
     }
     fill_between(starts, next, n as usize + 1, arcs);
     line
@@ -53,7 +51,7 @@ pub fn fill(
 // A file that tells no holds has holds of 0.
 pub fn fill_holds(bytes: &[u8], at: usize, n: u32, held: u32, holds: &mut [u32])
     requires { HoldsFillable n held bytes.now at holds.old }
-    ensures { holds.new ≡ words_after Passed (node_holds held n (drop at bytes.now)) holds.old }
+    ensures { holds.new ≡ words_after (Ok tt) (node_holds held n (drop at bytes.now)) holds.old }
 {
     if held == 0 {
         fill_between(holds, 0, n as usize, 0);
@@ -64,18 +62,15 @@ pub fn fill_holds(bytes: &[u8], at: usize, n: u32, held: u32, holds: &mut [u32])
 
 fn fill_told(bytes: &[u8], at: usize, n: u32, holds: &mut [u32])
     requires { HoldsFillable n 1 bytes.now at holds.old }
-    ensures { holds.new ≡ words_after Passed (lines_holds n (drop at bytes.now)) holds.old }
+    ensures { holds.new ≡ words_after (Ok tt) (lines_holds n (drop at bytes.now)) holds.old }
 {
-    let count = n as usize;
     let mut line = at;
-    let mut v = 0;
-    while v < count {
-        let HoldLine::HoldRead { hold, taken } = hold_line_at(bytes, line) else {
+    for v in 0..n as usize {
+        let Some(HoldLine { hold, taken }) = hold_line_at(bytes, line) else {
             return;
         };
         holds[v] = hold;
         line += taken;
-        v += 1;
     }
 }
 
@@ -83,9 +78,7 @@ fn fill_between(words: &mut [u32], from: usize, to: usize, word: u32)
     requires { (from ≤ to) × (to ≤ length words.old) }
     ensures { words.new ≡ between words.old from to word }
 {
-    let mut i = from;
-    while i < to {
+    for i in from..to {
         words[i] = word;
-        i += 1;
     }
 }

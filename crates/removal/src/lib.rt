@@ -39,10 +39,10 @@ fn remove_current(
     Removed {
         node: v,
         state: State {
-            front: state.front,
             current: state.current - 1,
             reached: state.reached + 1,
             tally: state.tally.looked(looks),
+            ..state
         },
     }
 }

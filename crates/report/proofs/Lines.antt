@@ -7,11 +7,12 @@ use native.Mathlib.Omega.{arith}
 use lib.Dec.{eqb}
 use lib.ListN.{length, get_or, length-append}
 use borrow.Author.Tests.{eq-eqb, ne_eqb}
+use Rattle.model.specs.Answers.{number_of}
+use Rattle.model.specs.declared.Fault.{Fault}
 use Rattle.theory.specs.Maps.{none}
 use Rattle.fields.specs.Fields.{comma, line_feed, decimal, render_fields, render_line}
 use Rattle.fields.proofs.Decimals.{decimal_most}
-use Rattle.report.specs.Report.{word_one, word_two, word_refused, hyphen, ended, or_none}
-use Rattle.report.specs.Report.{refused_text, counts_line, heap_line, node_line, node_lines, accepted_text}
+use Rattle.report.specs.Report.{word_one, word_two, word_refused, hyphen, ended, or_none, refused_text, counts_line, heap_line, node_line, node_lines, accepted_text}
 
 pub ended_length : (bytes : List ℕ) (end : ℕ) → length (ended bytes end) ≡ length bytes + 1
 ended_length bytes end = length-append bytes (end ∷ [])
@@ -37,9 +38,10 @@ two_most first second = omega (
 
 -- ---- the first lines
 
-pub refused_whole : (number place : ℕ) → ended word_refused comma ++ render_line comma (number ∷ place ∷ []) ≡ refused_text number place
+pub refused_whole : (fault : Fault)
+    → ended word_refused comma ++ render_line comma (number_of fault.kind ∷ fault.place ∷ []) ≡ refused_text fault
 unfolding refused_text
-refused_whole number place = refl
+refused_whole fault = refl
 
 pub counts_whole : (nodes arcs reached decreases : ℕ)
     → ended (decimal nodes) comma ++ ended (decimal arcs) comma ++ render_line comma (reached ∷ decreases ∷ [])

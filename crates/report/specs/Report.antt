@@ -1,5 +1,7 @@
 -- What the program `plan` prints, as bytes (document 01, "Planning file").
 use Rattle.std.specs.Prelude.{ℕ, zero, suc, cond, List, [], ◌∷◌, ◌++◌, eqb, get_or}
+use Rattle.model.specs.Answers.{number_of}
+use Rattle.model.specs.declared.Fault.{Fault}
 use Rattle.theory.specs.Maps.{none}
 use Rattle.fields.specs.Fields.{comma, line_feed, decimal, render_line}
 
@@ -24,8 +26,8 @@ abbrev pub ended : (bytes : List ℕ) → (end : ℕ) → List ℕ
 ended bytes end = bytes ++ (end ∷ [])
 
 -- A refusal is one line: the word, number, place (document 01, "Planning file").
-unfoldable pub refused_text : (number place : ℕ) → List ℕ
-refused_text number place = ended word_refused comma ++ render_line comma (number ∷ place ∷ [])
+unfoldable pub refused_text : Fault → List ℕ
+refused_text fault = ended word_refused comma ++ render_line comma (number_of fault.kind ∷ fault.place ∷ [])
 
 -- The first line of an answer: n, m, r, decreases (document 01, "Planning file").
 unfoldable pub counts_line : (nodes arcs reached decreases : ℕ) → List ℕ

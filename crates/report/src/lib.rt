@@ -1,4 +1,5 @@
-// What the program `plan` prints, written into a lent buffer (document 01, "Planning file").
+// What the program `plan` prints, written into a lent buffer (document 01, "Planning file"). By hand and not by Display: C lends the buffer too,
+// and the archive needs no formatter and no memory of its own.
 #![tactic(auto)]
 
 ghost use Rattle.std.specs.Prelude.{◌+◌, ◌*◌, ◌≤◌, [], ◌∷◌, length};
@@ -7,16 +8,7 @@ ghost use Rattle.fields.specs.Writing.{Writes};
 ghost use Rattle.report.specs.Report.{ended, refused_text, counts_line, heap_line, or_none, node_line, node_lines, accepted_text};
 
 use fields::writing::{put_byte, put_bytes, put_field};
-use model::{Arc, Node};
-
-// What a heap's line tells of its run.
-#[derive(Clone, Copy)]
-pub struct HeapNumbers {
-    pub buckets: u32,
-    pub placements: u32,
-    pub looks: u32,
-    pub reads: u32,
-}
+use model::{Arc, Fault, Node, Run};
 
 // The last two fields of a line.
 pub fn put_two(buffer: &mut [u8], at: usize, first: u64, second: u64) -> usize
@@ -48,12 +40,12 @@ fn put_or_none(buffer: &mut [u8], at: usize, value: u32, end: u8) -> usize
     put_field(buffer, at, value as u64, end)
 }
 
-pub fn write_refusal(buffer: &mut [u8], number: u32, place: usize) -> usize
+pub fn write_refusal(buffer: &mut [u8], fault: Fault) -> usize
     requires { 64 ≤ length buffer.old }
-    ensures { Writes 0 (refused_text number place) buffer.old buffer.new result }
+    ensures { Writes 0 (refused_text fault) buffer.old buffer.new result }
 {
     let next = put_word(buffer, 0, b"refused");
-    put_two(buffer, next, number as u64, place as u64)
+    put_two(buffer, next, fault.kind.number() as u64, fault.place as u64)
 }
 
 fn write_counts(
@@ -72,16 +64,21 @@ fn write_counts(
     put_two(buffer, third, reached as u64, decreases as u64)
 }
 
-fn write_heap(buffer: &mut [u8], at: usize, word: &[u8], heap: HeapNumbers) -> usize
+fn write_heap(buffer: &mut [u8], at: usize, word: &[u8], run: Run) -> usize
     requires { at + length word.now + 85 ≤ length buffer.old }
     ensures { Writes at
-        (heap_line word.now heap.buckets heap.placements heap.looks heap.reads)
+        (heap_line word.now run.buckets run.counts.placements run.counts.looks run.counts.reads)
         buffer.old buffer.new result }
 {
     let second = put_word(buffer, at, word);
-    let third = put_field(buffer, second, heap.buckets as u64, b',');
-    let fourth = put_field(buffer, third, heap.placements as u64, b',');
-    put_two(buffer, fourth, heap.looks as u64, heap.reads as u64)
+    let third = put_field(buffer, second, run.buckets as u64, b',');
+    let fourth = put_field(buffer, third, run.counts.placements as u64, b',');
+    put_two(
+        buffer,
+        fourth,
+        run.counts.looks as u64,
+        run.counts.reads as u64,
+    )
 }
 
 fn write_node(buffer: &mut [u8], at: usize, v: Node, distance: u32, parent: Arc) -> usize
@@ -101,39 +98,37 @@ fn write_nodes(
     parents: &[u32],
 ) -> usize
     requires nodes_in_bounds { at + 64 * nodes ≤ length buffer.old }
-    requires nodes_in_bounds_2 { (nodes ≤ length distances.now) × (nodes ≤ length parents.now) }
+    requires lists_hold_nodes { (nodes ≤ length distances.now) × (nodes ≤ length parents.now) }
     ensures { Writes at (node_lines nodes distances.now parents.now)
         buffer.old buffer.new result }
 {
     let mut next = at;
-    let mut v = 0;
-    while v < nodes {
+    for v in 0..nodes {
         let i = v as usize;
         next = write_node(buffer, next, Node(v), distances[i], Arc(parents[i]));
-        v += 1;
     }
     next
 }
 
+// Decreases, distances and parents are equal for both heaps, and the one-level heap's are told.
 pub fn write_answer(
     buffer: &mut [u8],
     nodes: u32,
     arcs: u32,
-    reached: u32,
-    decreases: u32,
-    one: HeapNumbers,
-    two: HeapNumbers,
+    one: Run,
+    two: Run,
     distances: &[u32],
     parents: &[u32],
 ) -> usize
     requires nodes_in_bounds { 512 + 64 * nodes ≤ length buffer.old }
-    requires nodes_in_bounds_2 { (nodes ≤ length distances.now) × (nodes ≤ length parents.now) }
+    requires lists_hold_nodes { (nodes ≤ length distances.now) × (nodes ≤ length parents.now) }
     ensures { Writes 0
-        (accepted_text nodes arcs reached decreases one.buckets one.placements one.looks one.reads
-        two.buckets two.placements two.looks two.reads distances.now parents.now)
+        (accepted_text nodes arcs one.reached one.counts.decreases
+        one.buckets one.counts.placements one.counts.looks one.counts.reads
+        two.buckets two.counts.placements two.counts.looks two.counts.reads distances.now parents.now)
         buffer.old buffer.new result }
 {
-    let second = write_counts(buffer, 0, nodes, arcs, reached, decreases);
+    let second = write_counts(buffer, 0, nodes, arcs, one.reached, one.counts.decreases);
     let third = write_heap(buffer, second, b"one", one);
     let next = write_heap(buffer, third, b"two", two);
     write_nodes(buffer, next, nodes, distances, parents)

@@ -4,7 +4,8 @@ use mathlib.Core.Path.{◌≡◌}
 use mathlib.Core.List.{List}
 use Rattle.theory.specs.Maps.{Map, Reached, Sound}
 use Rattle.theory.specs.Heap.{Heap}
-use Rattle.theory.specs.Runs.{Inputs, Levels, Segmented, heap_buckets, removal_looks}
+use Rattle.theory.specs.Runs.{Inputs, Segmented, heap_buckets, removal_looks}
+use Rattle.theory.specs.declared.Levels.{Levels}
 use Rattle.theory.specs.Demands.{Roster, Demanded}
 use Rattle.theory.proofs.Demands.{run_demanded, heaps_agree}
 use Rattle.reversal.specs.Reversed.{reversed, reversed_inputs, steps_to, ValidTo}

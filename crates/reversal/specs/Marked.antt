@@ -2,7 +2,9 @@
 use Rattle.std.specs.Prelude.{ℕ, List, [], ◌∷◌, length}
 use Rattle.theory.specs.Maps.{none, Map}
 use Rattle.theory.specs.Heap.{Heap, placements}
-use Rattle.theory.specs.Runs.{Levels, one, two, heap_buckets}
+use Rattle.theory.specs.Runs.{heap_buckets}
+use Rattle.theory.specs.declared.Levels.{Levels}
+use Rattle.theory.specs.declared.Levels.TheVariants.{One, Two}
 use Rattle.theory.specs.Edges.{Answer, run, listing}
 use Rattle.reversal.specs.Reversed.{old_numbers, reversed, old_parents, steps_to}
 
@@ -68,16 +70,16 @@ reversal_rows =
     lists_of listing
     answered lists (0 ∷ 1 ∷ 4 ∷ 5 ∷ 7 ∷ 7 ∷ []) (4 ∷ 0 ∷ 2 ∷ 3 ∷ 0 ∷ 0 ∷ 2 ∷ []) (1 ∷ 9 ∷ 4 ∷ 0 ∷ 4 ∷ 6 ∷ 2 ∷ []) (6 ∷ 0 ∷ 3 ∷ 5 ∷ 1 ∷ 2 ∷ 4 ∷ [])
     ∷ lists_of diamond answered lists (0 ∷ 0 ∷ 1 ∷ 2 ∷ 4 ∷ []) (0 ∷ 0 ∷ 1 ∷ 2 ∷ []) (1 ∷ 1 ∷ 1 ∷ 1 ∷ []) (1 ∷ 0 ∷ 2 ∷ 3 ∷ [])
-    ∷ run_to one listing 9 1
+    ∷ run_to One listing 9 1
     answered ran (run 5 2 6 7 11 31 (6 ∷ 0 ∷ 2 ∷ 0 ∷ 7 ∷ []) (2 ∷ none ∷ 4 ∷ 5 ∷ 6 ∷ []) (1 ∷ 3 ∷ 2 ∷ 0 ∷ 4 ∷ []))
-    ∷ run_to (two 3) listing 9 1
+    ∷ run_to (Two 3) listing 9 1
     answered ran (run 5 2 4 7 15 24 (6 ∷ 0 ∷ 2 ∷ 0 ∷ 7 ∷ []) (2 ∷ none ∷ 4 ∷ 5 ∷ 6 ∷ []) (1 ∷ 3 ∷ 2 ∷ 0 ∷ 4 ∷ []))
-    ∷ run_to one arrival_listing 9 1
+    ∷ run_to One arrival_listing 9 1
     answered ran (run 5 0 6 5 14 24 (9 ∷ 0 ∷ 4 ∷ 0 ∷ 11 ∷ []) (0 ∷ none ∷ 3 ∷ 5 ∷ 6 ∷ []) (1 ∷ 3 ∷ 2 ∷ 0 ∷ 4 ∷ []))
-    ∷ run_to (two 3) arrival_listing 9 1
+    ∷ run_to (Two 3) arrival_listing 9 1
     answered ran (run 5 0 4 5 16 20 (9 ∷ 0 ∷ 4 ∷ 0 ∷ 11 ∷ []) (0 ∷ none ∷ 3 ∷ 5 ∷ 6 ∷ []) (1 ∷ 3 ∷ 2 ∷ 0 ∷ 4 ∷ []))
-    ∷ run_to one diamond 5 3 answered ran (run 4 0 5 5 7 21 (2 ∷ 1 ∷ 1 ∷ 0 ∷ []) (1 ∷ 2 ∷ 3 ∷ none ∷ []) (3 ∷ 1 ∷ 2 ∷ 0 ∷ []))
-    ∷ run_to (two 2) diamond 5 3 answered ran (run 4 0 4 4 11 16 (2 ∷ 1 ∷ 1 ∷ 0 ∷ []) (1 ∷ 2 ∷ 3 ∷ none ∷ []) (3 ∷ 1 ∷ 2 ∷ 0 ∷ []))
-    ∷ run_to one held_destination 9 1 answered ran (run 2 0 6 2 5 10 (5 ∷ 0 ∷ []) (0 ∷ none ∷ []) (1 ∷ 0 ∷ []))
-    ∷ run_to (two 2) held_destination 9 1 answered ran (run 2 0 5 2 6 10 (5 ∷ 0 ∷ []) (0 ∷ none ∷ []) (1 ∷ 0 ∷ []))
+    ∷ run_to One diamond 5 3 answered ran (run 4 0 5 5 7 21 (2 ∷ 1 ∷ 1 ∷ 0 ∷ []) (1 ∷ 2 ∷ 3 ∷ none ∷ []) (3 ∷ 1 ∷ 2 ∷ 0 ∷ []))
+    ∷ run_to (Two 2) diamond 5 3 answered ran (run 4 0 4 4 11 16 (2 ∷ 1 ∷ 1 ∷ 0 ∷ []) (1 ∷ 2 ∷ 3 ∷ none ∷ []) (3 ∷ 1 ∷ 2 ∷ 0 ∷ []))
+    ∷ run_to One held_destination 9 1 answered ran (run 2 0 6 2 5 10 (5 ∷ 0 ∷ []) (0 ∷ none ∷ []) (1 ∷ 0 ∷ []))
+    ∷ run_to (Two 2) held_destination 9 1 answered ran (run 2 0 5 2 6 10 (5 ∷ 0 ∷ []) (0 ∷ none ∷ []) (1 ∷ 0 ∷ []))
     ∷ []

@@ -2,4 +2,4 @@ mod Numbers
 mod Written
 mod Placing
 mod Tails
-mod Reversing
+pub mod Reversing

@@ -1,19 +1,16 @@
 -- What a call from C finds in the lent array of numbers, beside what the entry point behind it promises (document 01, "What a call
 -- returns").
 use Rattle.std.specs.Prelude.{ℕ, ◌+◌, ◌*◌, ◌≡◌, List}
-use Rattle.model.specs.declared.RunAnswer.{RunAnswer}
-use Rattle.model.specs.Answers.{numbers_of}
-use Rattle.theory.specs.Runs.{Inputs, Levels, one, two}
+use Rattle.model.specs.Answers.{RunAnswer, numbers_of}
+use Rattle.theory.specs.Runs.{Inputs}
+use Rattle.theory.specs.declared.Levels.{Levels}
+use Rattle.theory.specs.declared.Levels.TheVariants.{One, Two}
 use Rattle.runs.specs.Promise.{Lent, Promised}
 use Rattle.destination.specs.Promise.{LentTo, PromisedTo}
-use Rattle.route.specs.declared.RouteAnswer.{RouteAnswer}
-use Rattle.route.specs.Routes.{route_numbers_of, RoutePromised}
-use Rattle.reader.specs.declared.PlanAnswer.{PlanAnswer}
-use Rattle.reader.specs.Promise.{plan_numbers_of, PlanPromised}
-use Rattle.dimacs.specs.declared.DimacsAnswer.{DimacsAnswer}
-use Rattle.dimacs.specs.Promise.{dimacs_numbers_of, DimacsPromised}
-use Rattle.writer.specs.declared.WriteAnswer.{WriteAnswer}
-use Rattle.writer.specs.Promise.{write_numbers_of, WritePromised}
+use Rattle.route.specs.Routes.{RouteAnswer, route_numbers_of, RoutePromised}
+use Rattle.reader.specs.Promise.{PlanAnswer, plan_numbers_of, PlanPromised}
+use Rattle.dimacs.specs.Promise.{DimacsAnswer, dimacs_numbers_of, DimacsPromised}
+use Rattle.writer.specs.Promise.{WriteAnswer, write_numbers_of, WritePromised}
 use Rattle.answer_words.specs.Words.{run_words, route_words, read_words, dimacs_words, write_words}
 
 -- The version of the archive, MAJOR × 1000 + MINOR: ROOSTERNOW_VERSION of its header.
@@ -28,11 +25,11 @@ pub record RunHanded (L : Levels) (I : Inputs) (l l' : Lent) (numbers' : List �
 
 -- The one-level run (document 01, "One-level heap").
 abbrev pub OneLevelHanded : Inputs → (l l' : Lent) → (numbers' : List ℕ) → Type 0
-OneLevelHanded = RunHanded one
+OneLevelHanded = RunHanded One
 
 -- The two-level run (document 01, "Two-level heap").
 abbrev pub TwoLevelHanded : (K : ℕ) → Inputs → (l l' : Lent) → (numbers' : List ℕ) → Type 0
-TwoLevelHanded K = RunHanded (two K)
+TwoLevelHanded K = RunHanded (Two K)
 
 -- A run to a destination: its promise, and the numbers of its answer (document 02, paper 7).
 pub record RunToHanded (L : Levels) (I : Inputs) (l l' : LentTo) (numbers' : List ℕ) : Type 0 where
@@ -42,11 +39,11 @@ pub record RunToHanded (L : Levels) (I : Inputs) (l l' : LentTo) (numbers' : Lis
 
 -- The one-level run to a destination (document 02, paper 7).
 abbrev pub OneLevelToHanded : Inputs → (l l' : LentTo) → (numbers' : List ℕ) → Type 0
-OneLevelToHanded = RunToHanded one
+OneLevelToHanded = RunToHanded One
 
 -- The two-level run to a destination (document 02, paper 7).
 abbrev pub TwoLevelToHanded : (K : ℕ) → Inputs → (l l' : LentTo) → (numbers' : List ℕ) → Type 0
-TwoLevelToHanded K = RunToHanded (two K)
+TwoLevelToHanded K = RunToHanded (Two K)
 
 -- A route: its promise, and the numbers of its answer (document 01, "Routes" and "What a call returns").
 pub record RouteHanded (n source : ℕ) (starts heads parents : List ℕ) (destination : ℕ) (words words' numbers' : List ℕ) : Type 0 where

@@ -5,6 +5,7 @@ ghost use Rattle.roosternow.specs.Handing.{OneLevelToHanded, TwoLevelToHanded};
 
 use answer_words::run_words;
 use model::Node;
+use theory::Levels;
 
 // The one-level run to a destination.
 #[unsafe(no_mangle)]
@@ -33,7 +34,8 @@ pub extern "C" fn roosternow_one_level_to(
         reversed_heads.new reversed_costs.new old_arcs.new)
         numbers.new }
 {
-    let one = destination::one_level_to(
+    let one = destination::run_to(
+        Levels::One,
         n,
         ceiling,
         Node(destination),
@@ -81,11 +83,11 @@ pub extern "C" fn roosternow_two_level_to(
         reversed_heads.new reversed_costs.new old_arcs.new)
         numbers.new }
 {
-    let two = destination::two_level_to(
+    let two = destination::run_to(
+        Levels::Two { segments },
         n,
         ceiling,
         Node(destination),
-        segments,
         starts,
         heads,
         costs,

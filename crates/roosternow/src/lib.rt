@@ -1,5 +1,6 @@
 // The interface for C (include/roosternow.h): each function hands numbers and lists to an entry point, and writes what it answers to a
-// lent array of fixed size (document 01, "What a call returns").
+// lent array of fixed size (document 01, "What a call returns"). C has no enum with a number in it, so each kind of heap has functions of its own,
+// with the lists as parameters of their own.
 #![tactic(auto)]
 
 mod arriving;
@@ -13,6 +14,7 @@ ghost use Rattle.roosternow.specs.Handing.{archive_version, OneLevelHanded, TwoL
 
 use answer_words::{dimacs_words, read_words, route_words, run_words};
 use model::Node;
+use theory::Levels;
 
 const VERSION: u32 = 2000;
 
@@ -44,7 +46,8 @@ pub extern "C" fn roosternow_one_level(
         (lent distances.old parents.old roster.old work.old)
         (lent distances.new parents.new roster.new work.new) numbers.new }
 {
-    let one = runs::one_level(
+    let one = runs::run(
+        Levels::One,
         n,
         ceiling,
         Node(source),
@@ -81,11 +84,11 @@ pub extern "C" fn roosternow_two_level(
         (lent distances.old parents.old roster.old work.old)
         (lent distances.new parents.new roster.new work.new) numbers.new }
 {
-    let two = runs::two_level(
+    let two = runs::run(
+        Levels::Two { segments },
         n,
         ceiling,
         Node(source),
-        segments,
         starts,
         heads,
         costs,

@@ -7,8 +7,10 @@ use mathlib.Core.List.{List, [], ◌∷◌, ◌++◌}
 use lib.Dec.{ltb, leb, eqb}
 use lib.ListN.{length, get_or, drop, length-replicate}
 use borrow.Author.Tests.{le-leb, lt-leb, leb-false}
-use Rattle.model.specs.declared.Check.{Check}
-use Rattle.model.specs.declared.Check.TheVariants.{Passed, Fault}
+use Rattle.std.specs.Prelude.{Ok, Err}
+use Rattle.model.specs.Answers.{Check, fault_of}
+use Rattle.model.specs.declared.Kind.TheVariants.{NodeCount, Destination, NoParent, RouteRoom}
+use Rattle.model.specs.declared.Fault.{Fault}
 use Rattle.theory.specs.Maps.{parent_of}
 use Rattle.theory.specs.Maps as maps
 use Rattle.theory.proofs.Cases.{differ}
@@ -18,16 +20,15 @@ use Rattle.checks.specs.Checks.{first_fault}
 use Rattle.checks.proofs.Order.{AllPass, none, more, passed_all, stopped, gone_on}
 use Rattle.checks.proofs.Sizes.{passed_range, passed_heads, passed_starts, passed_lent}
 use Rattle.checks.proofs.Valid.{passed_sound}
-use Rattle.walk.specs.declared.Walked.TheVariants.{NoRoom, Arrived}
+use Rattle.walk.specs.declared.WalkError.TheVariants.{NoRoom}
 use Rattle.walk.specs.Walk.{Walk, NoWalk, Nodes, Table, walked_of, walked_words}
-use Rattle.route.specs.declared.RouteAnswer.{RouteAnswer}
-use Rattle.route.specs.Routes.{route_walk, table_size_checks, table_checks, destination_check, parent_check, walk_check, room_check, route_checks, route_numbers_of, RouteGiven, RoutePromised, walked_numbers}
+use Rattle.route.specs.Routes.{RouteAnswer, route_walk, table_size_checks, table_checks, destination_check, parent_check, walk_check, room_check, route_checks, route_numbers_of, RouteGiven, RoutePromised, walked_numbers}
 
 -- ---- the table
 
 pub sizes_pass : (n source starts heads : ℕ) → AllPass (table_size_checks n source starts heads) → (0 < n) × (starts ≡ n + 1)
 unfolding table_size_checks
-sizes_pass n source starts heads (more nodes (more from (more count (more words none)))) = ((passed_range 1 n 1 4096 nodes).0, passed_starts n starts words)
+sizes_pass n source starts heads (more nodes (more from (more count (more words none)))) = ((passed_range NodeCount n 1 4096 nodes).0, passed_starts n starts words)
 
 module _ (n source : ℕ) (starts heads : List ℕ) where
   table_sound : (parents : List ℕ) → AllPass (table_checks n source starts heads (length parents)) → Table n source starts heads parents
@@ -48,7 +49,7 @@ module _ (n source : ℕ) (starts heads : List ℕ) where
     long = passed_lent 1 (length parents) n long;
   }
 
-  pub passed_table : (parents : List ℕ) → first_fault (table_checks n source starts heads (length parents)) ≡ Passed → Table n source starts heads parents
+  pub passed_table : (parents : List ℕ) → first_fault (table_checks n source starts heads (length parents)) ≡ Ok tt → Table n source starts heads parents
   passed_table parents e = table_sound parents (passed_all (table_checks n source starts heads (length parents)) e)
 
 -- ---- the destination
@@ -57,7 +58,7 @@ module _ (n source : ℕ) (parents : List ℕ) (destination : ℕ) where
   abbrev checks : List Check
   checks = destination_check n destination ∷ parent_check source parents destination ∷ []
 
-  pub destination_far : n ≤ destination → Fault 14 0 ≡ first_fault checks
+  pub destination_far : n ≤ destination → Err (fault_of Destination 0) ≡ first_fault checks
   unfolding fault_if first_fault
   destination_far l = rw (le-leb n destination l) refl
 
@@ -68,19 +69,19 @@ module _ (n source : ℕ) (parents : List ℕ) (destination : ℕ) where
   parent_word : n ≤ length parents → destination < n → missing ≡ (not (eqb destination source) && eqb (parent_of parents destination) maps.none)
   parent_word long l = ap (λ (k : ℕ). not (eqb destination source) && eqb k maps.none) (get_d_inside parents destination 0 maps.none (omega arith))
 
-  pub parent_missing : n ≤ length parents → destination < n → missing ≡ true → Fault 15 0 ≡ first_fault checks
+  pub parent_missing : n ≤ length parents → destination < n → missing ≡ true → Err (fault_of NoParent 0) ≡ first_fault checks
   unfolding fault_if first_fault
   parent_missing long l e = rw (lt-leb n destination l, sym (parent_word long l) ∙ e) refl
 
-  pub destination_passes : n ≤ length parents → destination < n → missing ≡ false → Passed ≡ first_fault checks
+  pub destination_passes : n ≤ length parents → destination < n → missing ≡ false → (Ok tt) ≡ first_fault checks
   unfolding fault_if first_fault
   destination_passes long l e = rw (lt-leb n destination l, sym (parent_word long l) ∙ e) refl
 
-  pub destination_node : first_fault checks ≡ Passed → destination < n
+  pub destination_node : first_fault checks ≡ Ok tt → destination < n
   unfolding fault_if first_fault
   destination_node e = go (leb n destination) refl e
     where
-      go : (t : Bool) → leb n destination ≡ t → first_fault (cond t (Fault 14 0) Passed ∷ parent_check source parents destination ∷ []) ≡ Passed → destination < n
+      go : (t : Bool) → leb n destination ≡ t → first_fault (cond t (Err (fault_of Destination 0)) (Ok tt) ∷ parent_check source parents destination ∷ []) ≡ Ok tt → destination < n
       go true f g = differ (cc)
       go false f g = leb-false n destination f
 
@@ -94,8 +95,8 @@ walk_made (Nodes nodes) words {answer} {words'} e f =
     let z : length nodes + 0 ≡ length nodes = omega arith in
     go (ltb (length words) (length nodes)) (rw z at e) (rw z at f)
   where
-    go : (t : Bool) → route_numbers_of answer ≡ walked_numbers (cond t NoRoom (Arrived (length nodes))) → words' ≡ cond t words (nodes ++ drop (length nodes) words)
-        → RouteGiven (first_fault (cond t (Fault 17 0) Passed ∷ [])) (Nodes nodes) answer words words'
+    go : (t : Bool) → route_numbers_of answer ≡ walked_numbers (cond t (Err NoRoom) (Ok (length nodes))) → words' ≡ cond t words (nodes ++ drop (length nodes) words)
+        → RouteGiven (first_fault (cond t (Err (fault_of RouteRoom 0)) (Ok tt) ∷ [])) (Nodes nodes) answer words words'
     go true e f = record { numbers = e; list = f }
     go false e f = record { numbers = e; list = f }
 
@@ -112,22 +113,22 @@ module _ (n source : ℕ) (starts heads parents : List ℕ) (destination : ℕ) 
   abbrev rest : (room : ℕ) → List Check
   rest room = walk_check walk ∷ room_check room walk ∷ []
 
-  refused_given : {check : Check} {number place : ℕ} {answer : RouteAnswer} (words : List ℕ) → check ≡ Fault number place
-      → route_numbers_of answer ≡ record { returned = number; place = place; nodes = 0 } → RouteGiven check walk answer words words
-  refused_given words e f = rw e (record { numbers = f; list = refl })
+  refused_given : {check : Check} {fault : Fault} {answer : RouteAnswer} (words : List ℕ) → check ≡ Err fault
+      → answer ≡ Err fault → RouteGiven check walk answer words words
+  refused_given words e f = rw e (record { numbers = ap route_numbers_of f; list = refl })
 
-  pub table_refused : (words : List ℕ) {answer : RouteAnswer} {number place : ℕ} → first_fault table ≡ Fault number place
-      → route_numbers_of answer ≡ record { returned = number; place = place; nodes = 0 } → RoutePromised n source starts heads parents destination answer words words
+  pub table_refused : (words : List ℕ) {answer : RouteAnswer} {fault : Fault} → first_fault table ≡ Err fault
+      → answer ≡ Err fault → RoutePromised n source starts heads parents destination answer words words
   unfolding route_checks
   table_refused words e f = refused_given words (sym (stopped table (ends ++ rest (length words)) refl e) ∙ e) f
 
-  pub destination_refused : (words : List ℕ) {answer : RouteAnswer} {number place : ℕ} → first_fault table ≡ Passed → first_fault ends ≡ Fault number place
-      → route_numbers_of answer ≡ record { returned = number; place = place; nodes = 0 } → RoutePromised n source starts heads parents destination answer words words
+  pub destination_refused : (words : List ℕ) {answer : RouteAnswer} {fault : Fault} → first_fault table ≡ Ok tt → first_fault ends ≡ Err fault
+      → answer ≡ Err fault → RoutePromised n source starts heads parents destination answer words words
   unfolding route_checks
   destination_refused words p e f =
       refused_given words (sym (gone_on table p (record { is = stopped ends (rest (length words)) refl e })) ∙ e) f
 
-  pub walk_promised : (words : List ℕ) {answer : RouteAnswer} {words' : List ℕ} → first_fault table ≡ Passed → first_fault ends ≡ Passed
+  pub walk_promised : (words : List ℕ) {answer : RouteAnswer} {words' : List ℕ} → first_fault table ≡ Ok tt → first_fault ends ≡ Ok tt
       → route_numbers_of answer ≡ walked_numbers (walked_of (length words) 0 walk) → words' ≡ walked_words 0 walk words
       → RoutePromised n source starts heads parents destination answer words words'
   unfolding route_checks

@@ -7,9 +7,8 @@ use mathlib.Core.Logic.{◌≢◌, inl, inr}
 use mathlib.Core.List.{List, [], ◌∷◌, ◌++◌}
 use lib.ListN.{length, drop, length-append, get_or-append}
 use borrow.Author.Tests.{lt-leb, le-ltb, eq-eqb, ne_eqb}
-use Rattle.model.specs.declared.Check.{Check}
-use Rattle.model.specs.declared.Check.TheVariants.{Passed}
-use Rattle.model.specs.declared.RunAnswer.{RunAnswer}
+use Rattle.model.specs.Answers.{Check, RunAnswer}
+use Rattle.std.specs.Prelude.{Ok}
 use Rattle.theory.specs.Maps.{Map, map_of, route_cost, Reached, SpelledRoute, parent_of, distance_of, Sound}
 use Rattle.theory.specs.Maps as maps
 use Rattle.theory.specs.Demands.{CheapestRoutes}
@@ -17,7 +16,8 @@ use Rattle.theory.proofs.Cases.{same?}
 use Rattle.theory.proofs.Maps.Arcs.{leaves_arc}
 use Rattle.theory.proofs.Maps.Routes.{spelled_route, route_node, spelled_past}
 use Rattle.check_numbers.specs.Numbers.{fault_if, head_count_check}
-use Rattle.theory.specs.Runs.{Inputs, Levels, steps_of}
+use Rattle.theory.specs.Runs.{Inputs, steps_of}
+use Rattle.theory.specs.declared.Levels.{Levels}
 use Rattle.checks.specs.Checks.{first_fault, run_checks}
 use Rattle.checks.proofs.Order.{none, more, all_passed_lem, parts_pass}
 use Rattle.checks.proofs.Sizes.{lent_passes}
@@ -30,11 +30,11 @@ use Rattle.route.specs.Routes.{route_walk, table_size_checks, table_checks, dest
 -- ---- the checks of a route over lists in order
 
 sound_table : {n source : ℕ} {starts heads costs holds : List ℕ} → Sound (map_of n starts heads costs holds) source → (parents : ℕ) → n ≤ parents
-    → first_fault (table_checks n source starts heads parents) ≡ Passed
+    → first_fault (table_checks n source starts heads parents) ≡ Ok tt
 unfolding table_size_checks table_checks fault_if
 sound_table {n} {heads = heads} sound parents long =
     let p = sound_passed sound in
-    let small : head_count_check (length heads) ≡ Passed = rw (le-ltb 65536 (length heads) p.few) refl in
+    let small : head_count_check (length heads) ≡ Ok tt = rw (le-ltb 65536 (length heads) p.few) refl in
     all_passed_lem (more p.nodes (more p.from (more small (more p.count (more p.words (more p.below (more (lent_passes 1 parents n long) none)))))))
 
 -- ---- a destination that the parents spell
@@ -48,7 +48,7 @@ module _ {n source : ℕ} {starts heads costs holds : List ℕ} (sound : Sound (
   spelled_parent SpelledRoute.here q e = absurd (q refl)
   spelled_parent (SpelledRoute.on {t} r a h p k) q e = absurd (omega (arith, leaves_arc sound a t h, sound.few_arcs))
 
-  parent_passes : {v : ℕ} {route : List ℕ} → SpelledRoute M source parents v route → parent_check source parents v ≡ Passed
+  parent_passes : {v : ℕ} {route : List ℕ} → SpelledRoute M source parents v route → parent_check source parents v ≡ Ok tt
   unfolding fault_if
   parent_passes {v} r = elim (same? v source) [
     | inl e ↦ rw (eq-eqb v source e) refl
@@ -56,13 +56,13 @@ module _ {n source : ℕ} {starts heads costs holds : List ℕ} (sound : Sound (
   ]
 
   pub spelled_accepted : {v : ℕ} {route : List ℕ} → SpelledRoute M source parents v route → (room : ℕ) → length (nodes_along M source route) ≤ room
-      → first_fault (route_checks n source starts heads parents v room) ≡ Passed
+      → first_fault (route_checks n source starts heads parents v room) ≡ Ok tt
   unfolding fault_if route_checks
   spelled_accepted {v} {route} r room l =
       let walk : route_walk n source starts heads parents v ≡ Nodes (nodes_along M source route) = spelled_walk sound parents r (n - 1) (omega (arith, spelled_short sound parents r)) in
-      let node : destination_check n v ≡ Passed = rw (lt-leb n v (spelled_node sound parents r)) refl in
-      let there : walk_check (route_walk n source starts heads parents v) ≡ Passed = rw walk refl in
-      let space : room_check room (route_walk n source starts heads parents v) ≡ Passed = rw (walk, le-ltb room (length (nodes_along M source route)) l) refl in
+      let node : destination_check n v ≡ Ok tt = rw (lt-leb n v (spelled_node sound parents r)) refl in
+      let there : walk_check (route_walk n source starts heads parents v) ≡ Ok tt = rw walk refl in
+      let space : room_check room (route_walk n source starts heads parents v) ≡ Ok tt = rw (walk, le-ltb room (length (nodes_along M source route)) l) refl in
       parts_pass (table_checks n source starts heads (length parents))
       (destination_check n v ∷ parent_check source parents v ∷ walk_check (route_walk n source starts heads parents v) ∷ room_check room (route_walk n source starts heads parents v) ∷ [])
       (sound_table sound (length parents) long)
@@ -93,7 +93,7 @@ module _ {n source : ℕ} {starts heads costs holds : List ℕ} (sound : Sound (
       (spelled_past sound parents parents' cheapest.parents_length s.1) (s.2 ∙ sym same)
 
 module _ (L : Levels) (I : Inputs) (l l' : Lent) {r : RunAnswer} where
-  pub run_served : first_fault (run_checks L I (lengths_of l)) ≡ Passed → Promised L I r l l' → (destination : ℕ) → Reached I.map I.source destination
+  pub run_served : first_fault (run_checks L I (lengths_of l)) ≡ Ok tt → Promised L I r l l' → (destination : ℕ) → Reached I.map I.source destination
       → Served I.map I.source l'.distances l'.parents destination
   run_served e P destination reached =
       let Q = subst (λ (k : Check). Ran L I k r l l') e P in

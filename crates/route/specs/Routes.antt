@@ -1,17 +1,15 @@
 -- The route to a destination, found from the last arc back by a parent table (document 01, "Routes" and "What a call returns").
-use Rattle.std.specs.Prelude.{ℕ, ◌-◌, ◌≤◌, not, ◌&&◌, ◌≡◌, List, [], ◌∷◌, ◌++◌, ltb, leb, eqb, length}
-use Rattle.model.specs.declared.Check.{Check}
-use Rattle.model.specs.declared.Check.TheVariants.{Passed, Fault}
-use Rattle.model.specs.Answers.{words_after}
+use Rattle.std.specs.Prelude.{ℕ, ◌-◌, ◌≤◌, not, ◌&&◌, ◌≡◌, List, [], ◌∷◌, ◌++◌, ltb, leb, eqb, length, Result, Ok, Err}
+use Rattle.model.specs.Answers.{Check, number_of, fault_of, words_after}
+use Rattle.model.specs.declared.Fault.{Fault}
+use Rattle.model.specs.declared.Kind.TheVariants.{Destination, NoParent, Parents, RouteRoom}
 use Rattle.theory.specs.Maps.{none, Map, Route, route_cost, parent_of, distance_of}
 use Rattle.check_numbers.specs.Numbers.{fault_if, nodes_check, source_check, head_count_check, start_count_check, lent_check}
 use Rattle.check_lists.specs.Lists.{starts_check, heads_check}
 use Rattle.checks.specs.Checks.{first_fault}
-use Rattle.walk.specs.declared.Walked.{Walked}
-use Rattle.walk.specs.declared.Walked.TheVariants.{Lost, NoRoom, Arrived}
+use Rattle.walk.specs.declared.WalkError.{WalkError}
+use Rattle.walk.specs.declared.WalkError.TheVariants.{Lost, NoRoom}
 use Rattle.walk.specs.Walk.{Walk, NoWalk, Nodes, nodes_of, walk_back, nodes_along}
-use Rattle.route.specs.declared.RouteAnswer.{RouteAnswer}
-use Rattle.route.specs.declared.RouteAnswer.TheVariants.{Found, Refused}
 
 -- ---- the walk back
 
@@ -33,20 +31,20 @@ table_checks n source starts heads parents =
 
 -- 14: destination not below n (document 01, "What a call returns").
 abbrev pub destination_check : (n destination : ℕ) → Check
-destination_check n destination = fault_if 14 0 (leb n destination)
+destination_check n destination = fault_if Destination 0 (leb n destination)
 
 -- 15: destination has no parent and is not the source (document 01, "What a call returns").
 abbrev pub parent_check : (source : ℕ) → (parents : List ℕ) → (destination : ℕ) → Check
-parent_check source parents destination = fault_if 15 0 (not (eqb destination source) && eqb (parent_of parents destination) none)
+parent_check source parents destination = fault_if NoParent 0 (not (eqb destination source) && eqb (parent_of parents destination) none)
 
 -- 16: the parents do not lead back to the source (document 01, "What a call returns").
 abbrev pub walk_check : Walk → Check
-walk_check NoWalk = Fault 16 0
-walk_check (Nodes nodes) = Passed
+walk_check NoWalk = Err (fault_of Parents 0)
+walk_check (Nodes nodes) = Ok tt
 
 -- 17: the route list has fewer words than the route has nodes (document 01, "What a call returns").
 abbrev pub room_check : (room : ℕ) → Walk → Check
-room_check room walk = fault_if 17 0 (ltb room (length (nodes_of walk)))
+room_check room walk = fault_if RouteRoom 0 (ltb room (length (nodes_of walk)))
 
 -- A route: 1, 3, 4, 5, 6, 7, 10, 14 to 17 in order (document 01, "What a call returns").
 unfoldable pub route_checks : (n source : ℕ) → (starts heads parents : List ℕ) → (destination room : ℕ) → List Check
@@ -57,21 +55,29 @@ route_checks n source starts heads parents destination room =
 
 -- ---- the promise
 
+-- What a route answers: the number of its nodes, or the first fault (document 01, "Routes" and "What a call returns").
+abbrev pub RouteAnswer : Type 0
+RouteAnswer = Result ℕ Fault
+
 -- What a route returns: number and place, then the number of nodes (document 01, "Routes" and "What a call returns").
 pub record RouteNumbers : Type 0 where
   pub returned : ℕ
   pub place : ℕ
   pub nodes : ℕ
 
--- The numbers of each case of a route's answer; all other numbers of a refusal are 0 (document 01, "What a call returns").
+-- All other numbers of a refusal are 0 (document 01, "What a call returns").
+abbrev pub refused_route : Fault → RouteNumbers
+refused_route fault = record { returned = number_of fault.kind; place = fault.place; nodes = 0 }
+
+-- The numbers of each case of a route's answer (document 01, "What a call returns").
 abbrev pub route_numbers_of : RouteAnswer → RouteNumbers
-route_numbers_of (Found nodes) = record { returned = 0; place = 0; nodes = nodes }
-route_numbers_of (Refused number place) = record { returned = number; place = place; nodes = 0 }
+route_numbers_of (Ok nodes) = record { returned = 0; place = 0; nodes = nodes }
+route_numbers_of (Err fault) = refused_route fault
 
 -- The answer to a route whose checks in order come to `check` (document 01, "What a call returns").
 abbrev pub route_numbers : Check → Walk → RouteNumbers
-route_numbers Passed walk = record { returned = 0; place = 0; nodes = length (nodes_of walk) }
-route_numbers (Fault number place) walk = record { returned = number; place = place; nodes = 0 }
+route_numbers (Ok tt) walk = record { returned = 0; place = 0; nodes = length (nodes_of walk) }
+route_numbers (Err fault) walk = refused_route fault
 
 -- The promise of a route whose checks come to `check`: the numbers, and the list with the nodes, source first (document 01, "Routes").
 pub record RouteGiven (check : Check) (walk : Walk) (answer : RouteAnswer) (words words' : List ℕ) : Type 0 where
@@ -95,12 +101,12 @@ pub record Served (M : Map) (source : ℕ) (distances parents : List ℕ) (desti
   pub cost : route_cost M route ≡ distance_of distances destination
   pub nodes : nodes_of (route_walk M.nodes source M.starts M.heads parents destination) ≡ nodes_along M source route
   pub accepted : (room : ℕ) → length (nodes_along M source route) ≤ room
-      → first_fault (route_checks M.nodes source M.starts M.heads parents destination room) ≡ Passed
+      → first_fault (route_checks M.nodes source M.starts M.heads parents destination room) ≡ Ok tt
 
 -- ---- the steps of a route in code
 
 -- The answer to a walk (document 01, "What a call returns", numbers 16 and 17).
-abbrev pub walked_numbers : Walked → RouteNumbers
-walked_numbers Lost = record { returned = 16; place = 0; nodes = 0 }
-walked_numbers NoRoom = record { returned = 17; place = 0; nodes = 0 }
-walked_numbers (Arrived nodes) = record { returned = 0; place = 0; nodes = nodes }
+abbrev pub walked_numbers : Result ℕ WalkError → RouteNumbers
+walked_numbers (Err Lost) = record { returned = 16; place = 0; nodes = 0 }
+walked_numbers (Err NoRoom) = record { returned = 17; place = 0; nodes = 0 }
+walked_numbers (Ok nodes) = record { returned = 0; place = 0; nodes = nodes }

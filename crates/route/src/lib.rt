@@ -6,72 +6,65 @@ ghost use Rattle.checks.specs.Checks.{first_fault};
 ghost use Rattle.route.specs.Routes.{table_checks, destination_check, parent_check, route_numbers_of, RoutePromised, walked_numbers};
 
 use check_lists::{limits, starts};
-use model::{Check, Node};
-use walk::Walked;
-
-// What a route gives back.
-#[derive(Clone, Copy)]
-pub enum RouteAnswer {
-    Found { nodes: usize },
-    Refused { number: u32, place: usize },
-}
+use model::{Fault, Kind, Node};
+use walk::WalkError;
 
 // Numbers 1, 3, 4, 5, 6, 7 and 10. The words are read only once the sizes have passed.
-fn table_check(n: u32, source: Node, starts: &[u32], heads: &[u32], parents: usize) -> Check
+#[tactic(auto, unfolding(checks::specs::Checks::first_fault, crate::specs::Routes::table_size_checks, crate::specs::Routes::table_checks))]
+fn table_check(
+    n: u32,
+    source: Node,
+    starts: &[u32],
+    heads: &[u32],
+    parents: usize,
+) -> Result<(), Fault>
     ensures { result ≡ first_fault (table_checks n source.0 starts.now heads.now parents) }
 {
-    let found = checks::first_of(
-        check_numbers::nodes_check(n),
-        check_numbers::source_check(n, source),
-    );
-    let found = checks::first_of(found, check_numbers::head_count_check(heads.len()));
-    let sizes = checks::first_of(found, check_numbers::start_count_check(n, starts.len()));
-    let Check::Passed = sizes else {
-        return sizes;
-    };
-    let found = checks::first_of(
-        starts::starts_check(n, heads.len(), starts),
-        limits::heads_check(n, heads),
-    );
-    checks::first_of(found, check_numbers::lent_check(1, parents, n as usize))
+    check_numbers::nodes_check(n)?;
+    check_numbers::source_check(n, source)?;
+    check_numbers::head_count_check(heads.len())?;
+    check_numbers::start_count_check(n, starts.len())?;
+    starts::starts_check(n, heads.len(), starts)?;
+    limits::heads_check(n, heads)?;
+    check_numbers::lent_check(1, parents, n as usize)
 }
 
 // Numbers 14 and 15.
-fn destination_check(n: u32, source: Node, parents: &[u32], destination: Node) -> Check
+fn destination_check(n: u32, source: Node, parents: &[u32], destination: Node) -> Result<(), Fault>
     requires { n ≤ length parents.now }
     ensures { result ≡ first_fault (destination_check n destination.0 ∷ parent_check source.0 parents.now destination.0 ∷ []) }
 {
     if destination.0 >= n {
-        return Check::Fault {
-            number: 14,
+        return Err(Fault {
+            kind: Kind::Destination,
             place: 0,
-        };
+        });
     }
     let parent = parents[destination.0 as usize];
     let missing = (destination.0 != source.0) & (parent == 4294967295);
     if missing {
-        return Check::Fault {
-            number: 15,
+        return Err(Fault {
+            kind: Kind::NoParent,
             place: 0,
-        };
+        });
     }
-    Check::Passed
+    Ok(())
 }
 
 // Numbers 16 and 17, or the nodes written.
-fn answer(walked: Walked) -> RouteAnswer
+fn answer(walked: Result<usize, WalkError>) -> Result<usize, Fault>
     ensures { route_numbers_of result ≡ walked_numbers walked }
 {
     match walked {
-        Walked::Arrived { nodes } => RouteAnswer::Found { nodes },
-        Walked::NoRoom => RouteAnswer::Refused {
-            number: 17,
+        Ok(nodes) => Ok(nodes),
+        Err(WalkError::NoRoom) => Err(Fault {
+            kind: Kind::RouteRoom,
             place: 0,
-        },
-        Walked::Lost => RouteAnswer::Refused {
-            number: 16,
+        }),
+        Err(WalkError::Lost) => Err(Fault {
+            kind: Kind::Parents,
             place: 0,
-        },
+        }),
     }
 }
 
@@ -85,18 +78,12 @@ pub fn route(
     parents: &[u32],
     destination: Node,
     route: &mut [u32],
-) -> RouteAnswer
+) -> Result<usize, Fault>
     ensures { RoutePromised n source.0 starts.now heads.now parents.now destination.0 result
         route.old route.new }
 {
-    let table = table_check(n, source, starts, heads, parents.len());
-    if let Check::Fault { number, place } = table {
-        return RouteAnswer::Refused { number, place };
-    }
-    let check = destination_check(n, source, parents, destination);
-    if let Check::Fault { number, place } = check {
-        return RouteAnswer::Refused { number, place };
-    }
+    table_check(n, source, starts, heads, parents.len())?;
+    destination_check(n, source, parents, destination)?;
     let nodes = n as usize;
     let walked = walk::walk(
         nodes,

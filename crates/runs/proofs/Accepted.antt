@@ -2,14 +2,13 @@
 use Prim.Native.Nat.{ℕ, ◌+◌, ◌-◌, ◌*◌, ◌≤◌, ◌<◌}
 use native.Mathlib.Omega.{arith}
 use native.Mathlib.Nat.{mul-le-mul, mul-le-mul_left}
-use mathlib.Core.Path.{◌≡◌, refl, sym, ◌∙◌, ap₂}
+use mathlib.Core.Path.{◌≡◌, refl, sym, ◌∙◌, ap, ap₂}
 use mathlib.Core.List.{List}
 use lib.ListN.{length, take}
 use lib.Seq.{length-take-le}
-use Rattle.model.specs.declared.Check.{Check}
-use Rattle.model.specs.declared.Check.TheVariants.{Passed, Fault}
-use Rattle.model.specs.declared.RunAnswer.{RunAnswer}
-use Rattle.model.specs.Answers.{numbers_of, accepted_numbers, refused_numbers}
+use Rattle.model.specs.Answers.{Check, RunAnswer, numbers_of, accepted_numbers}
+use Rattle.std.specs.Prelude.{Ok, Err}
+use Rattle.model.specs.declared.Fault.{Fault}
 use Rattle.theory.specs.Network.{network}
 use Rattle.theory.specs.Heap.{heap}
 use Rattle.theory.specs.Demands.{Demanded}
@@ -19,7 +18,8 @@ use Rattle.state.specs.declared.State.{State}
 use Rattle.state.proofs.Tallies.{same_insertions, same_decreases, same_shifts}
 use Rattle.state.specs.Stands.{Setting}
 use Rattle.search.specs.Starts.{Starts}
-use Rattle.theory.specs.Runs.{Inputs, ValidInputs, Levels, heap_buckets, segment_count, removal_looks, work_words, steps_of}
+use Rattle.theory.specs.Runs.{Inputs, ValidInputs, heap_buckets, segment_count, removal_looks, work_words, steps_of}
+use Rattle.theory.specs.declared.Levels.{Levels}
 use Rattle.checks.specs.Checks.{first_fault, run_checks, Ready}
 use Rattle.sizes.specs.Sizes.{sizes_of}
 use Rattle.runs.specs.Promise.{Lent, Ran, lengths_of, Promised}
@@ -43,7 +43,7 @@ module _ {L : Levels} {I : Inputs} (l : Lent) (ready : Ready L I (lengths_of l))
 
     pub ended_ran : {r : RunAnswer}
         → numbers_of r ≡ accepted_numbers s.reached (heap_buckets L I.ceiling) (counts_told s.tally)
-        → Ran L I Passed r l l'
+        → Ran L I (Ok tt) r l l'
     ended_ran q = record {
       numbers = q ∙ ap₂ (λ (r : ℕ) (t : Tally). accepted_numbers r (heap_buckets L I.ceiling) (counts_told t)) E.reached E.tally;
       distances = E.distances;
@@ -94,17 +94,17 @@ module _ {L : Levels} {I : Inputs} {B K needed : ℕ} {sizes : List ℕ} (l : Le
       (rw (built.buckets_are, built.segments_are, built.sizes_are, built.needed_are) at left) (setting built.ready) (runs_on l built.ready)
 
 -- Inputs and lists that have passed the checks, with numbers and sizes that were computed from them.
-pub ready_built : {L : Levels} {I : Inputs} {l : Lent} {B : ℕ} {sizes : List ℕ} → Ready L I (lengths_of l) → B ≡ heap_buckets L I.ceiling
-    → sizes ≡ sizes_of L → Built L I B (segment_count L) sizes (work_words L I.map.nodes) l
-ready_built ready buckets computed =
-    record { ready = ready; buckets_are = buckets; segments_are = refl; sizes_are = computed; needed_are = refl }
+pub ready_built : {L : Levels} {I : Inputs} {l : Lent} {B K needed : ℕ} {sizes : List ℕ} → Ready L I (lengths_of l) → B ≡ heap_buckets L I.ceiling
+    → K ≡ segment_count L → sizes ≡ sizes_of L → needed ≡ work_words L I.map.nodes → Built L I B K sizes needed l
+ready_built ready buckets segments computed words =
+    record { ready = ready; buckets_are = buckets; segments_are = segments; sizes_are = computed; needed_are = words }
 
 -- The checks have come to `check`, which is that all pass.
-pub passed_ran : {L : Levels} {I : Inputs} {l l' : Lent} {check : Check} {r : RunAnswer} → check ≡ first_fault (run_checks L I (lengths_of l)) → check ≡ Passed
-    → Ran L I Passed r l l' → Promised L I r l l'
+pub passed_ran : {L : Levels} {I : Inputs} {l l' : Lent} {check : Check} {r : RunAnswer} → check ≡ first_fault (run_checks L I (lengths_of l)) → check ≡ Ok tt
+    → Ran L I (Ok tt) r l l' → Promised L I r l l'
 passed_ran is passed ran = rw (sym is ∙ passed) ran
 
 -- A refusal leaves every list as it was.
-pub refused_ran : {L : Levels} {I : Inputs} {check : Check} {number place : ℕ} {r : RunAnswer} {l : Lent} → check ≡ Fault number place
-    → numbers_of r ≡ refused_numbers number place → Ran L I check r l l
-refused_ran e q = rw e (record { numbers = q; distances = refl; parents = refl; roster = refl; work = refl; demanded = tt })
+pub refused_ran : {L : Levels} {I : Inputs} {check : Check} {fault : Fault} {r : RunAnswer} {l : Lent} → check ≡ Err fault
+    → r ≡ Err fault → Ran L I check r l l
+refused_ran e q = rw e (record { numbers = ap numbers_of q; distances = refl; parents = refl; roster = refl; work = refl; demanded = tt })

@@ -5,13 +5,13 @@ use mathlib.Core.Path.{◌≡◌, refl, sym, ◌∙◌, ap, subst}
 use mathlib.Core.List.{List}
 use lib.ListN.{length, take, drop}
 use lib.Seq.{take_at}
-use Rattle.model.specs.declared.Check.{Check}
-use Rattle.model.specs.declared.Check.TheVariants.{Passed, Fault}
-use Rattle.model.specs.declared.RunAnswer.{RunAnswer}
-use Rattle.model.specs.Answers.{Numbers, numbers_of, words_after}
+use Rattle.model.specs.Answers.{Check, RunAnswer, Numbers, numbers_of, number_of, words_after}
+use Rattle.std.specs.Prelude.{Ok, Err}
+use Rattle.model.specs.declared.Fault.{Fault}
 use Rattle.theory.specs.Search.{Search}
 use Rattle.theory.specs.Heap.{Heap}
-use Rattle.theory.specs.Runs.{Inputs, Levels, heap_buckets, steps_of}
+use Rattle.theory.specs.Runs.{Inputs, heap_buckets, steps_of}
+use Rattle.theory.specs.declared.Levels.{Levels}
 use Rattle.theory.proofs.Demands.{allowed_segmented, heaps_agree}
 use Rattle.checks.specs.Checks.{first_fault, run_checks}
 use Rattle.checks.proofs.Numbered.{fault_number}
@@ -21,39 +21,39 @@ use Rattle.runs.specs.Agreement.{FilledAlike, RunsAgree}
 
 -- ---- an accepted run
 
-pub returned_passed : (check : Check) → ((number place : ℕ) → check ≡ Fault number place → 1 ≤ number) → (B : ℕ) (h : Heap)
-    → (run_numbers check B h).returned ≡ 0 → check ≡ Passed
-returned_passed Passed some B h e = refl
-returned_passed (Fault number place) some B h e = absurd (omega (arith, some number place refl, e))
+pub returned_passed : (check : Check) → ((fault : Fault) → check ≡ Err fault → 1 ≤ number_of fault.kind) → (B : ℕ) (h : Heap)
+    → (run_numbers check B h).returned ≡ 0 → check ≡ Ok tt
+returned_passed (Ok tt) some B h e = refl
+returned_passed (Err fault) some B h e = absurd (omega (arith, some fault refl, e))
 
 module _ {L : Levels} {I : Inputs} {r : RunAnswer} {l l' : Lent} (promised : Promised L I r l l') (accepted : (numbers_of r).returned ≡ 0) where
   -- 0 is returned only where all checks pass.
-  pub accepted_passed : first_fault (run_checks L I (lengths_of l)) ≡ Passed
+  pub accepted_passed : first_fault (run_checks L I (lengths_of l)) ≡ Ok tt
   accepted_passed =
       returned_passed _ (fault_number L I (lengths_of l)) _ _ (sym (ap (λ (n : Numbers). n.returned) promised.numbers) ∙ accepted)
 
-  pub accepted_ran : Ran L I Passed r l l'
+  pub accepted_ran : Ran L I (Ok tt) r l l'
   accepted_ran = subst (λ (k : Check). Ran L I k r l l') accepted_passed promised
 
 -- ---- two accepted runs
 
 -- Lists that two searches have filled, which have found the same.
 module _ {s t : Search} (agree : s ≡ t) (list : Search → List ℕ) (count : ℕ) (long : length (list s) ≡ count) where
-  first_words_lem : (words : List ℕ) {words' : List ℕ} → words' ≡ words_after Passed (list s) words → take count words' ≡ list s
+  first_words_lem : (words : List ℕ) {words' : List ℕ} → words' ≡ words_after (Ok tt) (list s) words → take count words' ≡ list s
   first_words_lem words p = ap (take count) p ∙ take_at (list s) (drop (length (list s)) words) count long
 
-  filled_alike : (words others : List ℕ) {words' others' : List ℕ} → words' ≡ words_after Passed (list s) words
-      → others' ≡ words_after Passed (list t) others → FilledAlike count words words' others others'
+  filled_alike : (words others : List ℕ) {words' others' : List ℕ} → words' ≡ words_after (Ok tt) (list s) words
+      → others' ≡ words_after (Ok tt) (list t) others → FilledAlike count words words' others others'
   filled_alike words others {words'} {others'} p r =
-      let q : others' ≡ words_after Passed (list s) others = r ∙ ap (λ (x : Search). words_after Passed (list x) others) (sym agree) in
-      record { filled = first_words_lem words p ∙ sym (first_words_lem others q); equal = λ e. p ∙ ap (words_after Passed (list s)) e ∙ sym q }
+      let q : others' ≡ words_after (Ok tt) (list s) others = r ∙ ap (λ (x : Search). words_after (Ok tt) (list x) others) (sym agree) in
+      record { filled = first_words_lem words p ∙ sym (first_words_lem others q); equal = λ e. p ∙ ap (words_after (Ok tt) (list s)) e ∙ sym q }
 
 -- What the steps h have left, with the parents told by some numbers: the arcs' own, or those of another map (document 02, paper 7).
 pub record LeftBy (told : List ℕ → List ℕ) (B : ℕ) (h : Heap) (r : RunAnswer) (l l' : Lent) : Type 0 where
-  pub numbers : numbers_of r ≡ run_numbers Passed B h
-  pub distances : l'.distances ≡ words_after Passed h.search.distances l.distances
-  pub parents : l'.parents ≡ words_after Passed (told h.search.parents) l.parents
-  pub roster : l'.roster ≡ words_after Passed h.search.roster l.roster
+  pub numbers : numbers_of r ≡ run_numbers (Ok tt) B h
+  pub distances : l'.distances ≡ words_after (Ok tt) h.search.distances l.distances
+  pub parents : l'.parents ≡ words_after (Ok tt) (told h.search.parents) l.parents
+  pub roster : l'.roster ≡ words_after (Ok tt) h.search.roster l.roster
 
 -- Steps that have found the same leave the same.
 pub steps_agree : {told : List ℕ → List ℕ} {n B B' : ℕ} {h h' : Heap} {r s : RunAnswer} {l l' k k' : Lent} → LeftBy told B h r l l' → LeftBy told B' h' s k k'
@@ -84,7 +84,7 @@ runs_agree {L} {L'} {I} P Q a b =
     let first = accepted_ran P a in
     steps_agree (ran_left first) (ran_left (accepted_ran Q b)) agree first.demanded.cheapest.distances_length first.demanded.cheapest.parents_length
   where
-    ran_left : {L : Levels} {I : Inputs} {r : RunAnswer} {l l' : Lent} → Ran L I Passed r l l'
+    ran_left : {L : Levels} {I : Inputs} {r : RunAnswer} {l l' : Lent} → Ran L I (Ok tt) r l l'
         → LeftBy (λ parents. parents) (heap_buckets L I.ceiling) (steps_of L I) r l l'
     ran_left ran = record { numbers = ran.numbers; distances = ran.distances; parents = ran.parents; roster = ran.roster }
 

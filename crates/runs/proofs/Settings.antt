@@ -19,7 +19,9 @@ use Rattle.buckets.specs.Words.{WordsFit}
 use Rattle.buckets.specs.Words.Laws.{bucket_count_lem, count_words_lem, no_count_words}
 use Rattle.state.specs.declared.Layout.{Layout}
 use Rattle.state.specs.Stands.{Setting}
-use Rattle.theory.specs.Runs.{Inputs, Levels, one, two, Allowed, heap_buckets, segment_count, work_words, shape_of}
+use Rattle.theory.specs.Runs.{Inputs, Allowed, heap_buckets, segment_count, work_words, shape_of}
+use Rattle.theory.specs.declared.Levels.{Levels}
+use Rattle.theory.specs.declared.Levels.TheVariants.{One, Two}
 use Rattle.checks.specs.Checks.{Lengths, Ready}
 
 -- A layout from its numbers.
@@ -71,27 +73,27 @@ two_fits n C K few ceiling low high =
 -- What sets the kinds of heap apart, each fact by the kind.
 module _ (n C : ℕ) (low : C ≤ 1048575) where
   pub few_buckets : (L : Levels) → heap_buckets L C ≤ 22
-  few_buckets one = one_level_most C
-  few_buckets (two K) = omega (arith, two_level_most C K)
+  few_buckets One = one_level_most C
+  few_buckets (Two K) = omega (arith, two_level_most C K)
 
   pub few_looks : (L : Levels) → Allowed L → most_segment_looks L ≤ 64
-  few_looks one a = omega arith
-  few_looks (two K) a = a.1
+  few_looks One a = omega arith
+  few_looks (Two K) a = a.1
 
   pub agrees : (L : Levels) → Allowed L → Agrees (shape_of L n C) (heap_buckets L C) (segment_count L) (sizes_of L)
-  agrees one a = one_agrees n C low
-  agrees (two K) a = two_agrees n C K low a.0 a.1
+  agrees One a = one_agrees n C low
+  agrees (Two K) a = two_agrees n C K low a.0 a.1
 
   -- The segments are few, and the work words hold the lists of all of them.
   pub few_segments : (L : Levels) → Allowed L → (heap_buckets L C - 1) * segment_count L ≤ 300
-  few_segments one a = omega (arith, one_level_most C)
-  few_segments (two K) a = two_slots C K low a.0 a.1
+  few_segments One a = omega (arith, one_level_most C)
+  few_segments (Two K) a = two_slots C K low a.0 a.1
 
   pub fits : (L : Levels) → Allowed L → n ≤ 4096 → WordsFit n ((heap_buckets L C - 1) * segment_count L + 1) (segment_count L) (work_words L n)
-  fits one a few =
+  fits One a few =
       let e : (one_level_buckets C - 1) * 1 + 1 ≡ one_level_buckets C = omega (arith, (one_agrees n C low).sized.two) in
       rw e (one_fits n C few low)
-  fits (two K) a few = two_fits n C K few low a.0 a.1
+  fits (Two K) a few = two_fits n C K few low a.0 a.1
 
 -- The setting of a run that its checks let pass.
 module _ {L : Levels} {I : Inputs} {room : Lengths} (ready : Ready L I room) where

@@ -1,6 +1,5 @@
 -- A run on the words that it fills of each lent list.
-use Rattle.std.specs.Prelude.{ℕ, ◌+◌, ◌≤◌, ◌≡◌, List, length, take, replicate}
-use Rattle.model.specs.declared.Check.TheVariants.{Passed}
+use Rattle.std.specs.Prelude.{ℕ, ◌+◌, ◌≤◌, ◌≡◌, List, length, take, replicate, Ok}
 use Rattle.model.specs.declared.Counts.{Counts}
 use Rattle.model.specs.Answers.{words_after}
 use Rattle.theory.specs.Maps.{Map, map_of}
@@ -12,7 +11,8 @@ use Rattle.state.specs.Tallies.{counts_of}
 use Rattle.state.specs.Stands.{Setting}
 use Rattle.search.specs.Running.{Runs}
 use Rattle.sizes.specs.Sizes.{sizes_of}
-use Rattle.theory.specs.Runs.{Inputs, Levels, heap_buckets, segment_count, work_words}
+use Rattle.theory.specs.Runs.{Inputs, heap_buckets, segment_count, work_words}
+use Rattle.theory.specs.declared.Levels.{Levels}
 use Rattle.checks.specs.Checks.{Ready}
 use Rattle.runs.specs.Promise.{Lent, lengths_of}
 
@@ -45,10 +45,10 @@ pub record SomeRunsOn (layout : Layout) (sizes starts heads costs holds : List �
 
 -- The lists hold what the steps h leave, the scan order included, and the numbers are those of h (document 01, "The tallies").
 pub record Ended (h : Heap) (needed : ℕ) (l l' : Lent) (s : State) : Type 0 where
-  pub distances : l'.distances ≡ words_after Passed h.search.distances l.distances
-  pub parents : l'.parents ≡ words_after Passed h.search.parents l.parents
-  pub roster : l'.roster ≡ words_after Passed h.search.roster l.roster
-  pub work : l'.work ≡ words_after Passed (replicate needed 0) l.work
+  pub distances : l'.distances ≡ words_after (Ok tt) h.search.distances l.distances
+  pub parents : l'.parents ≡ words_after (Ok tt) h.search.parents l.parents
+  pub roster : l'.roster ≡ words_after (Ok tt) h.search.roster l.roster
+  pub work : l'.work ≡ words_after (Ok tt) (replicate needed 0) l.work
   pub reached : s.reached ≡ length h.search.roster
   pub tally : s.tally ≡ counts_of h
 

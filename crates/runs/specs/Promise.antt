@@ -1,14 +1,13 @@
 -- What the entry points promise for every input (document 01, "What the planner holds and leaves out" and "What a call returns").
-use Rattle.std.specs.Prelude.{ℕ, ◌≡◌, List, length, replicate}
-use Rattle.model.specs.declared.Check.{Check}
-use Rattle.model.specs.declared.Check.TheVariants.{Passed, Fault}
+use Rattle.std.specs.Prelude.{ℕ, ◌≡◌, List, length, replicate, Ok, Err}
+use Rattle.model.specs.Answers.{Check, RunAnswer, Numbers, numbers_of, accepted_numbers, refused_numbers, words_after}
 use Rattle.model.specs.declared.Counts.{Counts}
-use Rattle.model.specs.declared.RunAnswer.{RunAnswer}
-use Rattle.model.specs.Answers.{Numbers, numbers_of, accepted_numbers, refused_numbers, words_after}
 use Rattle.theory.specs.Maps.{Map}
 use Rattle.theory.specs.Heap.{Heap, placements}
 use Rattle.theory.specs.Demands.{Demanded}
-use Rattle.theory.specs.Runs.{Inputs, Levels, one, two, heap_buckets, removal_looks, work_words, steps_of}
+use Rattle.theory.specs.Runs.{Inputs, heap_buckets, removal_looks, work_words, steps_of}
+use Rattle.theory.specs.declared.Levels.{Levels}
+use Rattle.theory.specs.declared.Levels.TheVariants.{One, Two}
 use Rattle.checks.specs.Checks.{first_fault, run_checks, Lengths}
 
 -- The counts given back of the steps h (document 01, "The tallies"; document 02, paper 3).
@@ -18,13 +17,13 @@ counts_given h = record { decreases = h.search.decreases; placements = placement
 -- The numbers given back: those of the steps h with B buckets, or the first fault's (document 01, "What a call returns" and "The
 -- tallies").
 abbrev pub run_numbers : Check → (B : ℕ) → (h : Heap) → Numbers
-run_numbers Passed B h = accepted_numbers (length h.search.roster) B (counts_given h)
-run_numbers (Fault number place) B h = refused_numbers number place
+run_numbers (Ok tt) B h = accepted_numbers (length h.search.roster) B (counts_given h)
+run_numbers (Err fault) B h = refused_numbers fault
 
 -- Demands 2 and 3, of an accepted run with B buckets and at most L looks to a removal (document 01, "The tallies").
 abbrev pub RunDemanded : Check → (M : Map) → (source B L : ℕ) → (h : Heap) → Type 0
-RunDemanded Passed M source B L h = Demanded M source B L h
-RunDemanded (Fault number place) M source B L h = Unit {0}
+RunDemanded (Ok tt) M source B L h = Demanded M source B L h
+RunDemanded (Err fault) M source B L h = Unit {0}
 
 -- The four lent lists (document 01, "What the planner holds and leaves out").
 pub record Lent : Type 0 where
@@ -58,8 +57,8 @@ Promised L I r l l' = Ran L I (first_fault (run_checks L I (lengths_of l))) r l 
 -- The one-level run for every input: checks 1 to 6, 20, 7, 8 and 10 in order (document 01, "What a call returns"; document 02,
 -- paper 2).
 abbrev pub OneLevelPromised : Inputs → RunAnswer → (l l' : Lent) → Type 0
-OneLevelPromised = Promised one
+OneLevelPromised = Promised One
 
 -- The two-level run for every input: checks 1 to 6, 20, 7 to 10 in order (document 01, "What a call returns"; document 02, paper 2).
 abbrev pub TwoLevelPromised : (K : ℕ) → Inputs → RunAnswer → (l l' : Lent) → Type 0
-TwoLevelPromised K = Promised (two K)
+TwoLevelPromised K = Promised (Two K)

@@ -1,19 +1,20 @@
-// The two runs that callers use: each makes its own checks, plans with the shared core, and leaves its work words at 0 (document 01,
+// The run that callers use, by either heap: it makes its checks, plans with the core, and leaves its work words at 0 (document 01,
 // "What the planner holds and leaves out" and "What a call returns").
 #![tactic(auto)]
 
-ghost use Rattle.std.specs.Prelude.{◌≡◌, ◌+◌, ◌<◌};
-ghost use Rattle.model.specs.declared.Check.TheVariants.{Passed};
+ghost use Rattle.std.specs.Prelude.{◌≡◌, ◌+◌, ◌<◌, Ok};
 ghost use Rattle.theory.specs.Maps.{map_of};
 ghost use Rattle.theory.specs.Heap.{heap};
 ghost use Rattle.state.specs.Stands.{Setting};
-ghost use Rattle.theory.specs.Runs.{Levels, one, two, inputs};
+ghost use Rattle.theory.specs.Runs.{inputs, segment_count};
+ghost use Rattle.theory.specs.declared.Levels.{Levels};
 ghost use Rattle.checks.specs.Checks.{Ready};
-ghost use Rattle.runs.specs.Promise.{Ran, OneLevelPromised, TwoLevelPromised, lent, lengths_of};
+ghost use Rattle.runs.specs.Promise.{Ran, Promised, lent, lengths_of};
 ghost use Rattle.runs.specs.Parts.{counts_told, Built, SomeBuilt, RunsOn, SomeRunsOn, Ended};
 
-use model::{Check, Counts, Node, RunAnswer};
+use model::{Counts, Fault, Node, Run};
 use state::{Layout, State, Tally};
+use theory::Levels;
 
 // The counts of a run, from its tallies.
 fn counts(tally: Tally) -> Counts
@@ -89,13 +90,13 @@ fn steps(
     parents: &mut [u32],
     roster: &mut [u32],
     work: &mut [u32],
-) -> RunAnswer
+) -> Run
     requires { SomeBuilt (inputs n ceiling source.0 starts.now heads.now costs.now holds.now) buckets segments sizes.now needed
         (lent distances.old parents.old roster.old work.old) }
     ensures { (L : Levels)
         → Built L (inputs n ceiling source.0 starts.now heads.now costs.now holds.now) buckets segments sizes.now needed
         (lent distances.old parents.old roster.old work.old)
-        → Ran L (inputs n ceiling source.0 starts.now heads.now costs.now holds.now) Passed result
+        → Ran L (inputs n ceiling source.0 starts.now heads.now costs.now holds.now) (Ok tt) (Ok result)
         (lent distances.old parents.old roster.old work.old)
         (lent distances.new parents.new roster.new work.new) }
 {
@@ -111,11 +112,16 @@ fn steps(
         starts, heads, costs, holds, distances, parents, roster, work, sizes, layout, top, source,
         needed,
     );
-    model::accepted_run(state.reached, buckets, counts(state.tally))
+    Run {
+        reached: state.reached,
+        buckets,
+        counts: counts(state.tally),
+    }
 }
 
-// The one-level run of inputs and lists that have passed the checks.
-pub fn one_level_steps(
+// The run of inputs and lists that have passed the checks.
+pub fn run_steps(
+    levels: Levels,
     n: u32,
     ceiling: u32,
     source: Node,
@@ -127,97 +133,38 @@ pub fn one_level_steps(
     parents: &mut [u32],
     roster: &mut [u32],
     work: &mut [u32],
-) -> RunAnswer
-    requires { Ready one (inputs n ceiling source.0 starts.now heads.now costs.now holds.now)
+) -> Run
+    requires { Ready levels (inputs n ceiling source.0 starts.now heads.now costs.now holds.now)
         (lengths_of (lent distances.old parents.old roster.old work.old)) }
-    ensures { Ran one (inputs n ceiling source.0 starts.now heads.now costs.now holds.now) Passed result
+    ensures { Ran levels (inputs n ceiling source.0 starts.now heads.now costs.now holds.now) (Ok tt) (Ok result)
         (lent distances.old parents.old roster.old work.old)
         (lent distances.new parents.new roster.new work.new) }
 {
-    let buckets = sizes::one_level_buckets(ceiling);
-    let sizes = sizes::one_level_sizes();
-    let needed = 4 * n as usize + 64;
-    steps(
-        n, ceiling, source, buckets, 1, needed, &sizes, starts, heads, costs, holds, distances,
-        parents, roster, work,
-    )
-}
-
-// The two-level run of inputs and lists that have passed the checks.
-pub fn two_level_steps(
-    n: u32,
-    ceiling: u32,
-    source: Node,
-    segments: u32,
-    starts: &[u32],
-    heads: &[u32],
-    costs: &[u32],
-    holds: &[u32],
-    distances: &mut [u32],
-    parents: &mut [u32],
-    roster: &mut [u32],
-    work: &mut [u32],
-) -> RunAnswer
-    requires { Ready (two segments) (inputs n ceiling source.0 starts.now heads.now costs.now holds.now)
-        (lengths_of (lent distances.old parents.old roster.old work.old)) }
-    ensures { Ran (two segments) (inputs n ceiling source.0 starts.now heads.now costs.now holds.now) Passed result
-        (lent distances.old parents.old roster.old work.old)
-        (lent distances.new parents.new roster.new work.new) }
-{
-    let buckets = sizes::two_level_buckets(ceiling, segments);
-    let sizes = sizes::two_level_sizes(segments);
-    let needed = 4 * n as usize + 384;
+    let buckets = sizes::buckets(levels, ceiling);
+    let segments = segment_count(levels);
+    let needed = checks::work_words(levels, n);
+    let sizes = sizes::sizes(levels);
     steps(
         n, ceiling, source, buckets, segments, needed, &sizes, starts, heads, costs, holds,
         distances, parents, roster, work,
     )
 }
 
-// The one-level run.
-pub fn one_level(
-    n: u32,
-    ceiling: u32,
-    source: Node,
-    starts: &[u32],
-    heads: &[u32],
-    costs: &[u32],
-    holds: &[u32],
-    distances: &mut [u32],
-    parents: &mut [u32],
-    roster: &mut [u32],
-    work: &mut [u32],
-) -> RunAnswer
-    ensures { OneLevelPromised (inputs n ceiling source.0 starts.now heads.now costs.now holds.now) result
-        (lent distances.old parents.old roster.old work.old)
-        (lent distances.new parents.new roster.new work.new) }
+// A bucket of the one-level heap is one segment.
+fn segment_count(levels: Levels) -> u32
+    ensures { result ≡ segment_count levels }
 {
-    let check = checks::one_level_check(
-        n,
-        ceiling,
-        source,
-        starts,
-        heads,
-        costs,
-        holds,
-        distances.len(),
-        parents.len(),
-        roster.len(),
-        work.len(),
-    );
-    if let Check::Fault { number, place } = check {
-        return model::refused_run(number, place);
+    match levels {
+        Levels::One => 1,
+        Levels::Two { segments } => segments,
     }
-    one_level_steps(
-        n, ceiling, source, starts, heads, costs, holds, distances, parents, roster, work,
-    )
 }
 
-// The two-level run.
-pub fn two_level(
+pub fn run(
+    levels: Levels,
     n: u32,
     ceiling: u32,
     source: Node,
-    segments: u32,
     starts: &[u32],
     heads: &[u32],
     costs: &[u32],
@@ -226,16 +173,16 @@ pub fn two_level(
     parents: &mut [u32],
     roster: &mut [u32],
     work: &mut [u32],
-) -> RunAnswer
-    ensures { TwoLevelPromised segments (inputs n ceiling source.0 starts.now heads.now costs.now holds.now) result
+) -> Result<Run, Fault>
+    ensures { Promised levels (inputs n ceiling source.0 starts.now heads.now costs.now holds.now) result
         (lent distances.old parents.old roster.old work.old)
         (lent distances.new parents.new roster.new work.new) }
 {
-    let check = checks::two_level_check(
+    checks::run_check(
+        levels,
         n,
         ceiling,
         source,
-        segments,
         starts,
         heads,
         costs,
@@ -244,11 +191,8 @@ pub fn two_level(
         parents.len(),
         roster.len(),
         work.len(),
-    );
-    if let Check::Fault { number, place } = check {
-        return model::refused_run(number, place);
-    }
-    two_level_steps(
-        n, ceiling, source, segments, starts, heads, costs, holds, distances, parents, roster, work,
-    )
+    )?;
+    Ok(run_steps(
+        levels, n, ceiling, source, starts, heads, costs, holds, distances, parents, roster, work,
+    ))
 }

@@ -1,4 +1,3 @@
-pub mod Filling
 pub mod Arcs
 pub mod Blank
 pub mod Stepping

@@ -12,17 +12,13 @@ ghost use Rattle.search.specs.Starts.{Starts, SomeStarts};
 ghost use Rattle.search.specs.Running.{Runs, SomeRuns, Steps, SomeSteps};
 
 use model::{Arc, Node};
-use state::{Layout, State, Tally};
+use state::{Layout, State};
 
 // Every word of a list is set.
 pub fn fill(list: &mut [u32], word: u32)
     ensures { list.new ≡ replicate (length list.old) word }
 {
-    let mut i = 0;
-    while i < list.len() {
-        list[i] = word;
-        i += 1;
-    }
+    list.fill(word);
 }
 
 // Nothing is labelled but the source, at distance 0. Its parent is the mark for "none", and so are all other distances and parents.
@@ -45,19 +41,7 @@ pub fn start(
     fill(distances, 4294967295);
     fill(parents, 4294967295);
     bounds::first_bounds(words, layout.nodes, sizes, layout.buckets, top);
-    let tally = Tally {
-        insertions: 0,
-        decreases: 0,
-        shifts: 0,
-        looks: 0,
-        reads: 0,
-    };
-    let blank = State {
-        front: 0,
-        current: 0,
-        reached: 0,
-        tally,
-    };
+    let blank = State::default();
     placing::insert_node(
         words,
         distances,
@@ -104,8 +88,7 @@ pub fn scan(
     ensures front { result.front ≡ state.front }
 {
     let mut reached = state;
-    let mut a = first;
-    while a < last {
+    for a in first..last {
         reached = placing::relax(
             words,
             distances,
@@ -117,7 +100,6 @@ pub fn scan(
             Arc(a as u32),
             costs[a] + hold,
         );
-        a += 1;
     }
     reached
 }

@@ -1,7 +1,7 @@
 -- A node of the segment that is used is moved; and all of them, one after the other.
 use Prim.Native.Nat.{ℕ, ◌+◌, ◌*◌, ◌≤◌, ◌<◌}
 use native.Mathlib.Omega.{arith}
-use mathlib.Core.Path.{◌≡◌, refl, sym, ◌∙◌, ap, subst}
+use mathlib.Core.Path.{◌≡◌, refl, sym, ◌∙◌, ap}
 use mathlib.Core.Bool.{Bool, true, false, cond}
 use mathlib.Core.Logic.{◌≢◌, ◌⊎◌, inl, inr, ⊎_elim}
 use mathlib.Core.List.{List}
@@ -14,11 +14,8 @@ use Rattle.theory.proofs.Sums.{sum_at, sum_change, sum_zero}
 use Rattle.bounds.specs.Words.{bounds_of}
 use Rattle.bounds.proofs.Bucket.{bucket_from_same, reads_same}
 use Rattle.buckets.specs.Words.{places, place_word}
-use Rattle.buckets.specs.Answer.{InSlot, None}
-use Rattle.buckets.specs.declared.Found.{Found}
-use Rattle.buckets.specs.declared.Found.TheVariants.{At, Nothing}
-use Rattle.model.specs.declared.Node.{Node}
-use Rattle.frontier.specs.Frontier.{Frontier, Placed, FirstLeft}
+use Rattle.buckets.specs.Answer.{InSlot}
+use Rattle.frontier.specs.Frontier.{Frontier, Placed}
 use Rattle.frontier.specs.Frontier.Laws.{placed_again, placed_here, placed_other}
 use Rattle.state.specs.declared.Layout.{Layout}
 use Rattle.state.specs.declared.State.{State}
@@ -108,14 +105,6 @@ module _ {layout : Layout} {sizes words distances : List ℕ} {s : State} {bucke
         reached = S.reached;
         tally = S.tally ∙ ap (λ (r : ℕ). after_shifts (shifts_of bucket 1) (shifts_of bucket r) s.tally) (sym read_is);
       }
-
--- What was found at the head of a slot.
-pub left_empty : (n slots K slot : ℕ) (w w' : List ℕ) (f : Found) → FirstLeft n slots K slot w w' f → f ≡ Nothing → None (InSlot n K slot w) × (w' ≡ w)
-left_empty n slots K slot w w' f left e = subst (λ (f : Found). FirstLeft n slots K slot w w' f) e left
-
-pub left_held : (n slots K slot : ℕ) (w w' : List ℕ) (f : Found) {v : Node} → FirstLeft n slots K slot w w' f → f ≡ At v
-    → InSlot n K slot w v.0 × Placed n slots K w w' v.0 0
-left_held n slots K slot w w' f left e = subst (λ (f : Found). FirstLeft n slots K slot w w' f) e left
 
 -- Some of the slot's nodes have moved.
 pub record Distributing (layout : Layout) (sizes words₀ distances : List ℕ) (s₀ : State) (bucket slot : ℕ) (words : List ℕ) (s : State) : Type 0 where

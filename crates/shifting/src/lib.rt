@@ -6,7 +6,6 @@ ghost use Rattle.std.specs.Prelude.{◌≡◌};
 ghost use Rattle.shifting.specs.Renewing.{Renews, renewed};
 ghost use Rattle.shifting.specs.Moving.{Settles, Settled, Distributes, Distributed};
 
-use buckets::Found;
 use model::Node;
 use state::{Layout, State};
 
@@ -52,12 +51,9 @@ fn move_node(
     let n = layout.nodes;
     if bucket <= 1 {
         frontier::enter_current(words, n, layout.slots, layout.segments, v);
-        let tally = state.tally;
         return State {
-            front: state.front,
             current: state.current + 1,
-            reached: state.reached,
-            tally,
+            ..state
         };
     }
     let at = v.0 as usize;
@@ -65,10 +61,9 @@ fn move_node(
     let found = bounds::bucket_of(words, n, key, bucket);
     let current = placing::enter(words, sizes, layout, state.front, v, key, found.bucket);
     State {
-        front: state.front,
         current: state.current + current,
-        reached: state.reached,
         tally: state.tally.shifted().read(found.reads),
+        ..state
     }
 }
 
@@ -89,11 +84,8 @@ pub fn distribute(
     let slots = layout.slots;
     let segments = layout.segments;
     let mut moved = state;
-    loop {
-        let found = frontier::take_first(words, n, slots, segments, bucket, slot);
-        let Found::At(v) = found else {
-            return moved;
-        };
+    while let Some(v) = frontier::take_first(words, n, slots, segments, bucket, slot) {
         moved = move_node(words, distances, sizes, layout, moved, bucket, v);
     }
+    moved
 }

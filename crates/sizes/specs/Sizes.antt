@@ -2,7 +2,8 @@
 use Rattle.std.specs.Prelude.{ℕ, ◌-◌, ◌^◌, cond, List, [], ◌∷◌, ◌++◌, leb}
 use Rattle.theory.specs.Sums.{list_below}
 use Rattle.powers.specs.Powers.{power_row}
-use Rattle.theory.specs.Runs.{Levels, one, two}
+use Rattle.theory.specs.declared.Levels.{Levels}
+use Rattle.theory.specs.declared.Levels.TheVariants.{One, Two}
 
 -- Bucket 1 has size 1, bucket i size 2^(i - 2) (document 01, "One-level heap").
 unfoldable pub one_level_sizes : List ℕ
@@ -14,5 +15,5 @@ two_level_sizes K = power_row K ++ (0 ∷ [])
 
 -- The sizes of the buckets of either heap (document 01, "One-level heap" and "Two-level heap").
 abbrev pub sizes_of : Levels → List ℕ
-sizes_of one = one_level_sizes
-sizes_of (two K) = two_level_sizes K
+sizes_of One = one_level_sizes
+sizes_of (Two K) = two_level_sizes K

@@ -2,8 +2,11 @@
 #![tactic(auto)]
 
 ghost use Rattle.std.specs.Prelude.{◌≡◌, ◌+◌, ◌≤◌};
-ghost use Rattle.theory.specs.Shape.{ceil_log, one_level_buckets, two_level_buckets};
-ghost use Rattle.sizes.specs.Sizes.{one_level_sizes, two_level_sizes};
+ghost use Rattle.theory.specs.Shape.{ceil_log};
+ghost use Rattle.theory.specs.Runs.{Allowed, heap_buckets};
+ghost use Rattle.sizes.specs.Sizes.{two_level_sizes, sizes_of};
+
+use theory::Levels;
 
 // The least exponent whose power of `base` is above `ceiling`, for both heaps. The next power is formed only
 // from one that is not above `ceiling`, so that it fits.
@@ -22,45 +25,39 @@ fn ceil_log(base: u32, ceiling: u32) -> u32
     exponent
 }
 
-// B of the one-level heap.
-pub fn one_level_buckets(ceiling: u32) -> u32
-    requires { ceiling ≤ 1048575 }
-    ensures { result ≡ one_level_buckets ceiling }
-{
-    ceil_log(2, ceiling) + 2
-}
-
-// B of the two-level heap.
-pub fn two_level_buckets(ceiling: u32, segments: u32) -> u32
+// B. The two-level heap has 2 buckets at least.
+pub fn buckets(levels: Levels, ceiling: u32) -> u32
     requires ceiling_bound { ceiling ≤ 1048575 }
-    requires le_segments { 2 ≤ segments }
-    requires segments_bound { segments ≤ 64 }
-    ensures { result ≡ two_level_buckets ceiling segments }
+    requires allowed { Allowed levels }
+    ensures { result ≡ heap_buckets levels ceiling }
 {
-    let exponent = ceil_log(segments, ceiling);
-    if exponent < 1 { 2 } else { exponent + 1 }
+    match levels {
+        Levels::One => ceil_log(2, ceiling) + 2,
+        Levels::Two { segments } => (ceil_log(segments, ceiling) + 1).max(2),
+    }
 }
 
-// The sizes of the buckets of the one-level heap.
-pub fn one_level_sizes() -> [u32; 22]
-    ensures { result ≡ one_level_sizes }
+// The sizes of the buckets, of the one-level heap as they are for every run.
+pub fn sizes(levels: Levels) -> [u32; 22]
+    ensures { result ≡ sizes_of levels }
 {
-    [
-        1, 1, 1, 2, 4, 8, 16, 32, 64, 128, 256, 512, 1024, 2048, 4096, 8192, 16384, 32768, 65536,
-        131072, 262144, 524288,
-    ]
+    match levels {
+        Levels::One => [
+            1, 1, 1, 2, 4, 8, 16, 32, 64, 128, 256, 512, 1024, 2048, 4096, 8192, 16384, 32768,
+            65536, 131072, 262144, 524288,
+        ],
+        Levels::Two { segments } => two_level_sizes(segments),
+    }
 }
 
-// The sizes of the buckets of the two-level heap: the powers of K = segments, and a 0 at the last place, which is no bucket's.
-pub fn two_level_sizes(segments: u32) -> [u32; 22]
+// The powers of K = segments, and a 0 at the last place, which is no bucket's.
+fn two_level_sizes(segments: u32) -> [u32; 22]
     ensures { result ≡ two_level_sizes segments }
 {
     let powers = powers::row(segments);
     let mut sizes = [0; 22];
-    let mut i = 0;
-    while i < 21 {
+    for i in 0..21 {
         sizes[i] = powers[i];
-        i += 1;
     }
     sizes
 }

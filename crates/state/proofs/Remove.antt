@@ -10,7 +10,7 @@ use lib.ListN.{length, get_or, set, drop, length-append}
 use lib.Seq.{drop-cons, set-append_seam}
 use borrow.Author.Tests.{eq-eqb, ne_eqb, lt-ltb, le-ltb}
 use Rattle.model.specs.Answers.{words_after}
-use Rattle.model.specs.declared.Check.TheVariants.{Passed}
+use Rattle.std.specs.Prelude.{Ok}
 use Rattle.theory.specs.Sums.{sum_below}
 use Rattle.theory.specs.Shape.{Shape}
 use Rattle.theory.specs.Search.{Mark, unlabelled, labelled, scanned, mark, remove}
@@ -75,7 +75,7 @@ module _ {layout : Layout} {sizes : List ℕ} (X : Setting layout sizes) {before
   place v = get_or (Words.places n l.words) v 0
 
   roster_after : (j k d v : ℕ) → Labelled h.search v → set l.roster s.reached v
-      ≡ words_after Passed (heap_remove sh j k d v h).search.roster before
+      ≡ words_after (Ok tt) (heap_remove sh j k d v h).search.roster before
   unfolding heap_remove remove
   roster_after j k d v on =
       rw (T.roster, T.reached) (roster_next h.search.roster before v (omega (arith, scans_fewer rest v on, X.nodes, long)))

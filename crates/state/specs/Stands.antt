@@ -1,7 +1,6 @@
 -- The setting of a run, and what its words stand for.
-use Rattle.std.specs.Prelude.{ℕ, ◌+◌, ◌-◌, ◌*◌, ◌≤◌, ◌<◌, ◌≡◌, List, length, get_or}
+use Rattle.std.specs.Prelude.{ℕ, ◌+◌, ◌-◌, ◌*◌, ◌≤◌, ◌<◌, ◌≡◌, List, length, get_or, Ok}
 use Rattle.model.specs.Answers.{words_after}
-use Rattle.model.specs.declared.Check.TheVariants.{Passed}
 use Rattle.theory.specs.Network.{Network, Admissible}
 use Rattle.theory.specs.Shape.{Shape}
 use Rattle.theory.specs.Heap.{Heap, bound}
@@ -44,7 +43,7 @@ pub record Stands (layout : Layout) (shape : Shape) (before : List ℕ) (h : Hea
   pub bounds : (i : ℕ) → 1 ≤ i → i ≤ layout.buckets → bound (bounds_of layout.nodes l.words) i ≡ bound h.bounds i
   pub distances : l.distances ≡ h.search.distances
   pub parents : l.parents ≡ h.search.parents
-  pub roster : l.roster ≡ words_after Passed h.search.roster before
+  pub roster : l.roster ≡ words_after (Ok tt) h.search.roster before
   pub current : s.current ≡ with_word layout.nodes l.words 1
   pub reached : s.reached ≡ length h.search.roster
   pub tally : s.tally ≡ counts_of h

@@ -4,10 +4,6 @@
 ghost use Rattle.std.specs.Prelude.{◌≡◌, ◌<◌, ◌+◌};
 ghost use Rattle.state.specs.Tallies.{Event, insertion, decrease, after_event};
 
-mod counts;
-
-use counts::{count_decrease, count_insertion, count_looks, count_reads, count_shift};
-
 // n, B, the segments of a bucket below the last (1 for one level), and the segments of all buckets.
 #[derive(Clone, Copy)]
 pub struct Layout {
@@ -19,7 +15,7 @@ pub struct Layout {
 
 // The counts of a run (document 01, "The tallies"; document 02, paper 3: reads). In this order the compiler keeps them out of memory
 // (docs/DECISIONS.md).
-#[derive(Clone, Copy)]
+#[derive(Clone, Copy, Default)]
 pub struct Tally {
     pub looks: u32,
     pub shifts: u32,
@@ -29,7 +25,7 @@ pub struct Tally {
 }
 
 // The distance scanned last, how many labelled nodes have it, how many nodes are scanned, and the tallies.
-#[derive(Clone, Copy)]
+#[derive(Clone, Copy, Default)]
 pub struct State {
     pub front: u32,
     pub current: u32,
@@ -37,50 +33,56 @@ pub struct State {
     pub tally: Tally,
 }
 
-// By value, so that no function of the core lends a struct, which would be proved by hand (docs/DECISIONS.md).
+// One method for each event (document 01, "The tallies"), by value, so that no function of the core holds a tally by reference beside the
+// lists that it is lent (docs/DECISIONS.md).
 impl Tally {
     pub fn inserted(self) -> Tally
         requires { self.insertions < 4294967295 }
         ensures { result ≡ after_event insertion self }
     {
-        let mut tally = self;
-        count_insertion(&mut tally);
-        tally
+        Tally {
+            insertions: self.insertions + 1,
+            ..self
+        }
     }
 
     pub fn decreased(self) -> Tally
         requires { self.decreases < 4294967295 }
         ensures { result ≡ after_event decrease self }
     {
-        let mut tally = self;
-        count_decrease(&mut tally);
-        tally
+        Tally {
+            decreases: self.decreases + 1,
+            ..self
+        }
     }
 
     pub fn shifted(self) -> Tally
         requires { self.shifts < 4294967295 }
         ensures { result ≡ after_event (Event.shifts 1) self }
     {
-        let mut tally = self;
-        count_shift(&mut tally);
-        tally
+        Tally {
+            shifts: self.shifts + 1,
+            ..self
+        }
     }
 
     pub fn looked(self, looks: u32) -> Tally
         requires { self.looks + looks < 4294967296 }
         ensures { result ≡ after_event (Event.looks looks) self }
     {
-        let mut tally = self;
-        count_looks(&mut tally, looks);
-        tally
+        Tally {
+            looks: self.looks + looks,
+            ..self
+        }
     }
 
     pub fn read(self, reads: u32) -> Tally
         requires { self.reads + reads < 4294967296 }
         ensures { result ≡ after_event (Event.reads reads) self }
     {
-        let mut tally = self;
-        count_reads(&mut tally, reads);
-        tally
+        Tally {
+            reads: self.reads + reads,
+            ..self
+        }
     }
 }

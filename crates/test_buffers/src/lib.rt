@@ -10,24 +10,17 @@ fn junk(i: usize) -> u8 {
 }
 
 pub fn fill(buffer: &mut [u8]) {
-    let mut i = 0;
-    while i < buffer.len() {
-        buffer[i] = junk(i);
-        i += 1;
+    for (i, byte) in buffer.iter_mut().enumerate() {
+        *byte = junk(i);
     }
 }
 
 // So many bytes, or all of the buffer if it has not so many.
 pub fn lent(buffer: &mut [u8], room: usize) -> &mut [u8] {
-    let first = FIRST;
-    if buffer.len() < first {
+    if buffer.len() < FIRST || buffer.len() - FIRST < room {
         return buffer;
     }
-    if buffer.len() - first < room {
-        return buffer;
-    }
-    let end = first + room;
-    &mut buffer[first..end]
+    &mut buffer[FIRST..FIRST + room]
 }
 
 // The first bytes of a buffer, or all of it if it has no more.
@@ -40,33 +33,20 @@ pub fn front(buffer: &mut [u8], bytes: usize) -> &mut [u8] {
 
 // The file of so many bytes that the lent part begins with.
 pub fn file_in(buffer: &[u8], bytes: usize) -> &[u8] {
-    let first = FIRST;
-    if buffer.len() < first {
-        return buffer;
-    }
-    if buffer.len() - first < bytes {
-        return buffer;
-    }
-    let end = first + bytes;
-    &buffer[first..end]
+    let behind = buffer.get(FIRST..).unwrap_or(buffer);
+    behind.get(..bytes).unwrap_or(buffer)
 }
 
-// 1 for a byte that is neither in that file nor as it was.
-fn strange(byte: u8, i: usize, bytes: usize) -> u64 {
-    let in_file = i >= FIRST && i - FIRST < bytes;
-    if in_file || byte == junk(i) {
-        return 0;
-    }
-    1
+// Whether a place is in that file.
+fn is_in_file(i: usize, bytes: usize) -> bool {
+    i >= FIRST && i - FIRST < bytes
 }
 
 // How many bytes outside of that file are not as they were.
 pub fn changed(buffer: &[u8], bytes: usize) -> u64 {
-    let mut found = 0;
-    let mut i = 0;
-    while i < buffer.len() {
-        found = std::num::wrapping_add_u64(found, strange(buffer[i], i, bytes));
-        i += 1;
-    }
-    found
+    let outside = buffer
+        .iter()
+        .enumerate()
+        .filter(|(i, _)| !is_in_file(*i, bytes));
+    outside.filter(|(i, byte)| **byte != junk(*i)).count() as u64
 }

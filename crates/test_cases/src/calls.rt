@@ -1,74 +1,58 @@
 // The rows that call the planner. Lists are lent with words of no meaning in them, and all their words go into the sums that are printed,
 // so that every word written or left shows.
-use model::Node;
+use model::{Fault, Node, Run};
 use std::io;
 use test_rows::bytes::made;
 use test_rows::lists::front;
 use test_rows::map::{COSTS, HEADS, HOLDS, PARENTS, part};
-use test_rows::printing::{print_byte_sums, print_sums, print_words};
+use test_rows::printing::{print_sums, print_words};
 use test_rows::rows::Row;
+use theory::Levels;
 
 // Row: one N,C,SOURCE STARTS,HEADS,COSTS,HOLDS DISTANCES,PARENTS,ROSTER,WORK
-fn one_level(
-    rt: &impl Print,
-    row: Row,
-    starts: &[u32],
-    heads: &[u32],
-    costs: &[u32],
-    holds: &[u32],
-) -> io::Result<()> {
+// Row: two N,C,SOURCE STARTS,HEADS,COSTS,HOLDS DISTANCES,PARENTS,ROSTER,WORK K
+// A heap with one level has no segments.
+fn search(rt: &impl Print, row: Row, segments: Option<u32>, map: &[u32]) -> io::Result<()> {
     let mut distances = [1000001u32; 4096];
     let mut parents = [2000003u32; 4096];
     let mut roster = [3000017u32; 4096];
     let mut work = [5000011u32; 16768];
-    let answer = runs::one_level(
-        row.n1,
-        row.n2,
-        Node(row.n3),
-        starts,
-        heads,
-        costs,
-        holds,
+    let answer = answer_of(
+        row,
+        segments,
+        map,
         front(&mut distances, row.n8),
         front(&mut parents, row.n9),
         front(&mut roster, row.n10),
         front(&mut work, row.n11),
     );
     crate::printing::print_run(rt, answer)?;
-    print_lists(rt, &distances, &parents, &roster, &work)?;
+    print_lists(rt, &[&distances, &parents, &roster, &work])?;
     print_roster(rt, row, &roster)
 }
 
-// Row: two N,C,SOURCE STARTS,HEADS,COSTS,HOLDS DISTANCES,PARENTS,ROSTER,WORK K
-fn two_level(
-    rt: &impl Print,
+fn answer_of(
     row: Row,
-    starts: &[u32],
-    heads: &[u32],
-    costs: &[u32],
-    holds: &[u32],
-) -> io::Result<()> {
-    let mut distances = [1000001u32; 4096];
-    let mut parents = [2000003u32; 4096];
-    let mut roster = [3000017u32; 4096];
-    let mut work = [5000011u32; 16768];
-    let answer = runs::two_level(
-        row.n1,
-        row.n2,
-        Node(row.n3),
-        row.n12,
-        starts,
-        heads,
-        costs,
-        holds,
-        front(&mut distances, row.n8),
-        front(&mut parents, row.n9),
-        front(&mut roster, row.n10),
-        front(&mut work, row.n11),
-    );
-    crate::printing::print_run(rt, answer)?;
-    print_lists(rt, &distances, &parents, &roster, &work)?;
-    print_roster(rt, row, &roster)
+    segments: Option<u32>,
+    map: &[u32],
+    distances: &mut [u32],
+    parents: &mut [u32],
+    roster: &mut [u32],
+    work: &mut [u32],
+) -> Result<Run, Fault> {
+    let source = Node(row.n3);
+    let starts = part(map, 0, row.n4);
+    let heads = part(map, HEADS, row.n5);
+    let costs = part(map, COSTS, row.n6);
+    let holds = part(map, HOLDS, row.n7);
+    let levels = match segments {
+        None => Levels::One,
+        Some(segments) => Levels::Two { segments },
+    };
+    runs::run(
+        levels, row.n1, row.n2, source, starts, heads, costs, holds, distances, parents, roster,
+        work,
+    )
 }
 
 // A row scan has the roster's lent words behind each run, so that their order can be read.
@@ -81,17 +65,10 @@ fn print_roster(rt: &impl Print, row: Row, roster: &[u32]) -> io::Result<()> {
     Ok(())
 }
 
-fn print_lists(
-    rt: &impl Print,
-    first: &[u32],
-    second: &[u32],
-    third: &[u32],
-    fourth: &[u32],
-) -> io::Result<()> {
-    print_sums(rt, first)?;
-    print_sums(rt, second)?;
-    print_sums(rt, third)?;
-    print_sums(rt, fourth)?;
+fn print_lists(rt: &impl Print, lists: &[&[u32]]) -> io::Result<()> {
+    for list in lists {
+        print_sums(rt, list)?;
+    }
     rt.write_all(b"\n")
 }
 
@@ -136,8 +113,11 @@ pub fn plan(rt: &impl Print, file: &[u8]) -> io::Result<()> {
         &mut output,
     );
     print_file(rt, file, &output, length)?;
-    print_all(
-        rt, &starts, &heads, &costs, &holds, &distances, &parents, &roster, &work,
+    print_lists(
+        rt,
+        &[
+            &starts, &heads, &costs, &holds, &distances, &parents, &roster, &work,
+        ],
     )
 }
 
@@ -156,13 +136,13 @@ pub fn read(rt: &impl Print, row: Row, file: &[u8]) -> io::Result<()> {
     );
     print_bytes(rt, file)?;
     crate::printing::print_read(rt, answer)?;
-    print_lists(rt, &starts, &heads, &costs, &holds)
+    print_lists(rt, &[&starts, &heads, &costs, &holds])
 }
 
 fn print_bytes(rt: &impl Print, file: &[u8]) -> io::Result<()> {
     rt.write_all(b"bytes ")?;
     rt.print(file.len() as u64)?;
-    print_byte_sums(rt, file)?;
+    print_sums(rt, file)?;
     rt.write_all(b"\n")
 }
 
@@ -171,50 +151,18 @@ fn print_file(rt: &impl Print, file: &[u8], output: &[u8; 33280], length: usize)
     print_bytes(rt, file)?;
     rt.write_all(made(output, length))?;
     rt.write_all(b"sums")?;
-    print_byte_sums(rt, output)
+    print_sums(rt, output)
 }
 
-fn print_all(
-    rt: &impl Print,
-    starts: &[u32; 513],
-    heads: &[u32; 2048],
-    costs: &[u32; 2048],
-    holds: &[u32; 512],
-    distances: &[u32; 512],
-    parents: &[u32; 512],
-    roster: &[u32; 512],
-    work: &[u32; 2432],
-) -> io::Result<()> {
-    print_sums(rt, starts)?;
-    print_sums(rt, heads)?;
-    print_sums(rt, costs)?;
-    print_sums(rt, holds)?;
-    print_lists(rt, distances, parents, roster, work)
-}
-
-// Row: scan, as two
-fn both_levels(
-    rt: &impl Print,
-    row: Row,
-    starts: &[u32],
-    heads: &[u32],
-    costs: &[u32],
-    holds: &[u32],
-) -> io::Result<()> {
-    one_level(rt, row, starts, heads, costs, holds)?;
-    two_level(rt, row, starts, heads, costs, holds)
-}
-
-// The rows that make a run.
+// The rows that make a run; a row scan makes both.
 pub fn run(rt: &impl Print, row: Row, map: &[u32]) -> io::Result<()> {
-    let starts = part(map, 0, row.n4);
-    let heads = part(map, HEADS, row.n5);
-    let costs = part(map, COSTS, row.n6);
-    let holds = part(map, HOLDS, row.n7);
-    let word = row.word;
-    match word {
-        b'o' => one_level(rt, row, starts, heads, costs, holds),
-        b't' => two_level(rt, row, starts, heads, costs, holds),
-        _ => both_levels(rt, row, starts, heads, costs, holds),
+    let segments = Some(row.n12);
+    match row.word {
+        b'o' => search(rt, row, None, map),
+        b't' => search(rt, row, segments, map),
+        _ => {
+            search(rt, row, None, map)?;
+            search(rt, row, segments, map)
+        }
     }
 }

@@ -8,14 +8,14 @@ pub type File = [u8; 65537];
 
 // Row: bytes BYTE,END
 pub fn fill_up(file: &mut File, at: usize, row: Row) -> usize {
-    let byte = (row.n1 % 256) as u8;
-    let end = row.n2 as usize;
-    let mut next = at;
-    while next < end && next < 65537 {
-        file[next] = byte;
-        next += 1;
+    let end = (row.n2 as usize).min(65537);
+    match file.get_mut(at..end) {
+        Some(rest) => {
+            rest.fill((row.n1 % 256) as u8);
+            end
+        }
+        None => at,
     }
-    next
 }
 
 // An arc of the map, where so many leave each node.
@@ -27,25 +27,19 @@ fn append_arc(file: &mut File, at: usize, map: &[u32], arc: u32, each: u32) -> u
 
 // Row: arcs FROM,END,EACH
 pub fn append_arcs(file: &mut File, at: usize, map: &[u32], row: Row) -> usize {
-    let end = row.n2;
     let mut next = at;
-    let mut arc = row.n1;
-    while arc < end {
+    for arc in row.n1..row.n2 {
         next = append_arc(file, next, map, arc, row.n3);
-        arc += 1;
     }
     next
 }
 
 // Row: nodes FROM,END
 pub fn append_holds(file: &mut File, at: usize, map: &[u32], row: Row) -> usize {
-    let end = row.n2;
     let mut next = at;
-    let mut node = row.n1;
-    while node < end {
+    for node in row.n1..row.n2 {
         let hold = word_at(map, HOLDS as usize + node as usize);
         next = append_number(file, next, hold, b'\n');
-        node += 1;
     }
     next
 }

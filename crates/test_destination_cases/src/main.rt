@@ -18,28 +18,21 @@ fn act(rt: &impl Print, line: &[u8], map: &mut Map, lent: Lent) -> io::Result<Le
     match word {
         b'w' => map::put_words(map, row, line),
         b'f' | b'd' => map::spread(map, row),
-        b'o' => calls::one_level(rt, row, lent, map)?,
-        b't' => calls::two_level(rt, row, lent, map)?,
-        b'b' | b's' => calls::both_levels(rt, row, lent, map)?,
+        b'o' | b't' | b'b' | b's' => calls::run(rt, row, lent, map)?,
         _ => (),
     }
-    if word == b'l' {
-        return Ok(calls::lent_of(row));
-    }
-    Ok(lent)
+    Ok(match word {
+        b'l' => Lent::from(row),
+        _ => lent,
+    })
 }
 
 fn act_all(rt: &impl Print, input: &[u8]) -> io::Result<()> {
     let mut map = [0u32; 143368];
-    let mut lent = calls::lent_of(rows::row_of(b""));
-    let mut at = 0;
-    while at < input.len() {
-        let end = rows::line_end(input, at);
-        lent = act(rt, &input[at..end], &mut map, lent)?;
-        if end == input.len() {
-            return Ok(());
-        }
-        at = end + 1;
+    let mut lent = Lent::from(rows::row_of(b""));
+    for line in input.split_inclusive(|byte| *byte == b'\n') {
+        let row = line.strip_suffix(b"\n").unwrap_or(line);
+        lent = act(rt, row, &mut map, lent)?;
     }
     Ok(())
 }

@@ -6,9 +6,6 @@ use test_reference_map::map;
 use test_reference_map::map::Lists;
 use test_reference_map::words::{minus, sum};
 
-// Behind the lists of a map: no word is set there.
-const NO_LIST: u64 = 139296;
-
 // One of three numbers.
 pub fn one_of(word: u64, first: u32, second: u32, third: u32) -> u32 {
     match random::below(word, 3) {
@@ -20,19 +17,11 @@ pub fn one_of(word: u64, first: u32, second: u32, third: u32) -> u32 {
 
 // One less and one more.
 pub fn before(number: u32) -> u32 {
-    std::num::wrapping_sub_u32(number, 1)
+    number.wrapping_sub(1)
 }
 
 pub fn after(number: u32) -> u32 {
-    std::num::wrapping_add_u32(number, 1)
-}
-
-// A number that is put to an edge or stays.
-fn kept_or(edge: bool, kept: u32, put: u32) -> u32 {
-    if edge {
-        return put;
-    }
-    kept
+    number.wrapping_add(1)
 }
 
 fn any_segments(word: u64) -> u32 {
@@ -60,42 +49,58 @@ fn any_work(word: u64, n: u32, kept: u32) -> u32 {
 
 // 1, 2, 3, 5, 9 and the length of 20.
 fn with_numbers(case: Case, refusal: u32, word: u64) -> Case {
-    let mut changed = case;
     let n = case.nodes;
-    let nodes = one_of(word, 0, 4096, 4097);
-    let ceiling = one_of(word, 1048575, 1048576, 4294967295);
-    let source = one_of(word, before(n), n, 4294967295);
-    let starts = one_of(word, n, case.starts, after(case.starts));
-    changed.nodes = kept_or(refusal == 1, n, nodes);
-    changed.ceiling = kept_or(refusal == 2, case.ceiling, ceiling);
-    changed.source = kept_or(refusal == 3, case.source, source);
-    changed.starts = kept_or(refusal == 5, case.starts, starts);
-    let holds = one_of(word, before(n), n, after(n));
-    changed.segments = kept_or(refusal == 9, case.segments, any_segments(word));
-    changed.holds = kept_or(refusal == 20, case.holds, holds);
-    changed
+    match refusal {
+        1 => Case {
+            nodes: one_of(word, 0, 4096, 4097),
+            ..case
+        },
+        2 => Case {
+            ceiling: one_of(word, 1048575, 1048576, 4294967295),
+            ..case
+        },
+        3 => Case {
+            source: one_of(word, before(n), n, 4294967295),
+            ..case
+        },
+        5 => Case {
+            starts: one_of(word, n, case.starts, after(case.starts)),
+            ..case
+        },
+        9 => Case {
+            segments: any_segments(word),
+            ..case
+        },
+        20 => Case {
+            holds: one_of(word, before(n), n, after(n)),
+            ..case
+        },
+        _ => case,
+    }
 }
 
 // 4: heads and costs of different length, or of the most arcs and one more.
 fn with_arcs(case: Case, word: u64) -> Case {
-    let mut changed = case;
     let heads = one_of(word, after(case.heads), 65536, 65537);
-    changed.heads = heads;
-    changed.costs = one_of(random::next(word), heads, heads, case.costs);
-    changed
+    Case {
+        heads,
+        costs: one_of(random::next(word), heads, heads, case.costs),
+        ..case
+    }
 }
 
 // 10: the lent lists as long as they have to be, or a word shorter.
 fn with_lent(case: Case, word: u64) -> Case {
-    let mut changed = case;
     let second = random::next(word);
     let third = random::next(second);
     let n = case.nodes % 8192;
-    changed.distances = one_of(word, case.distances, n, before(n));
-    changed.parents = one_of(second, case.parents, n, before(n));
-    changed.roster = one_of(third, case.roster, n, before(n));
-    changed.work = any_work(random::next(third), n, case.work);
-    changed
+    Case {
+        distances: one_of(word, case.distances, n, before(n)),
+        parents: one_of(second, case.parents, n, before(n)),
+        roster: one_of(third, case.roster, n, before(n)),
+        work: any_work(random::next(third), n, case.work),
+        ..case
+    }
 }
 
 // The refusals of a run, of which there are 11: 1 to 10, and 20.
@@ -116,13 +121,13 @@ pub fn numbers(case: Case, refusal: u32, word: u64) -> Case {
 }
 
 // The list that a refusal is about.
-fn list_of(refusal: u32) -> u64 {
+fn list_of(refusal: u32) -> Option<u64> {
     match refusal {
-        6 => map::STARTS,
-        7 => map::HEADS,
-        8 => map::COSTS,
-        20 => map::HOLDS,
-        _ => NO_LIST,
+        6 => Some(map::STARTS),
+        7 => Some(map::HEADS),
+        8 => Some(map::COSTS),
+        20 => Some(map::HOLDS),
+        _ => None,
     }
 }
 
@@ -137,16 +142,14 @@ fn count_of(case: Case, refusal: u32) -> u32 {
 
 // What the hold of an arc's tail leaves of the ceiling.
 fn left_for(case: Case, lists: &Lists, arc: u64) -> u32 {
-    let nodes = case.nodes as u64;
-    let mut v = 0;
-    while v < nodes {
-        if arc < map::start(lists, sum(v, 1)) {
-            let left = minus(case.ceiling as u64, map::hold(lists, v));
-            return (left % 4294967296) as u32;
+    let nodes = u64::from(case.nodes);
+    match (0..nodes).find(|v| arc < map::start(lists, sum(*v, 1))) {
+        Some(tail) => {
+            let left = minus(u64::from(case.ceiling), map::hold(lists, tail));
+            (left % 4294967296) as u32
         }
-        v += 1;
+        None => case.ceiling,
     }
-    case.ceiling
 }
 
 // A word of starts is any small number, m, or m + 1; a head, a hold or a cost with its tail's hold is the most there may be, or more.
@@ -161,14 +164,16 @@ fn edge_word(case: Case, refusal: u32, left: u32, word: u64) -> u32 {
 
 // The cost of an arc and its tail's hold together are so much above the ceiling.
 pub fn put_sum(case: Case, arc: u64, above: u64, lists: &mut Lists) {
-    let left = left_for(case, lists, arc) as u64;
+    let left = u64::from(left_for(case, lists, arc));
     map::set(lists, map::COSTS, arc, sum(left, above));
 }
 
 // The map with a word that a refusal is about at an edge.
 pub fn words(case: Case, refusal: u32, word: u64, lists: &mut Lists) {
-    let place = random::below(word, count_of(case, refusal)) as u64;
+    let place = u64::from(random::below(word, count_of(case, refusal)));
     let left = left_for(case, lists, place);
-    let put = edge_word(case, refusal, left, random::next(word)) as u64;
-    map::set(lists, list_of(refusal), place, put);
+    let put = edge_word(case, refusal, left, random::next(word));
+    if let Some(list) = list_of(refusal) {
+        map::set(lists, list, place, u64::from(put));
+    }
 }

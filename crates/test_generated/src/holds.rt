@@ -5,7 +5,7 @@ use crate::{maps, random};
 use test_reference_map::map::Lists;
 use test_reference_map::{map, words};
 
-// No holds.
+// A rule is a number, since the families of maps count through the rules. No holds.
 pub const ZERO: u32 = 0;
 
 pub const ANY: u32 = 1;
@@ -28,24 +28,19 @@ fn any_hold(most: u32, word: u64) -> u32 {
     }
 }
 
-// The greatest cost of the arcs from one number to another.
-fn greatest_cost(lists: &Lists, first: u64, end: u64) -> u64 {
-    let mut greatest = 0;
-    let mut arc = first;
-    while arc < end {
-        greatest = words::most(greatest, map::cost(lists, arc));
-        arc += 1;
-    }
-    greatest
+// The greatest cost of the arcs of node v.
+fn greatest_cost(lists: &Lists, v: u64) -> u64 {
+    map::arcs(lists, v)
+        .map(|arc| map::cost(lists, arc))
+        .max()
+        .unwrap_or(0)
 }
 
-// No cost of these arcs is above a limit.
-fn lower_costs(lists: &mut Lists, first: u64, end: u64, limit: u64) {
-    let mut arc = first;
-    while arc < end {
+// No cost of the arcs of node v is above a limit.
+fn lower_costs(lists: &mut Lists, v: u64, limit: u64) {
+    for arc in map::arcs(lists, v) {
         let cost = words::least(map::cost(lists, arc), limit);
         map::set(lists, map::COSTS, arc, cost);
-        arc += 1;
     }
 }
 
@@ -59,32 +54,28 @@ fn at_source(map: Map, v: u32, there: u32, elsewhere: u32) -> u32 {
 // The hold of node v, whose arcs leave so much of the ceiling.
 fn hold_of(map: Map, rule: u32, most: u32, v: u32, left: u64, word: u64) -> u64 {
     match rule {
-        ANY => any_hold(most, word) as u64,
-        LEFT => words::least(left, most as u64),
-        MOST => at_source(map, v, 0, most) as u64,
-        SOURCE_MOST => at_source(map, v, most, any_hold(most / 2, word)) as u64,
+        ANY => u64::from(any_hold(most, word)),
+        LEFT => words::least(left, u64::from(most)),
+        MOST => u64::from(at_source(map, v, 0, most)),
+        SOURCE_MOST => u64::from(at_source(map, v, most, any_hold(most / 2, word))),
         _ => 0,
     }
 }
 
 fn fill_node(map: Map, rule: u32, most: u32, v: u32, word: u64, lists: &mut Lists) {
-    let ceiling = map.ceiling as u64;
-    let first = map::start(lists, v as u64);
-    let end = map::start(lists, words::sum(v as u64, 1));
-    let left = words::minus(ceiling, greatest_cost(lists, first, end));
+    let node = u64::from(v);
+    let ceiling = u64::from(map.ceiling);
+    let left = words::minus(ceiling, greatest_cost(lists, node));
     let hold = hold_of(map, rule, most, v, left, word);
-    map::set(lists, map::HOLDS, v as u64, hold);
-    lower_costs(lists, first, end, words::minus(ceiling, hold));
+    map::set(lists, map::HOLDS, node, hold);
+    lower_costs(lists, node, words::minus(ceiling, hold));
 }
 
 // The holds of a map whose arcs are filled, none above the most.
 pub fn fill(map: Map, rule: u32, most: u32, lists: &mut Lists) {
-    let nodes = map.nodes;
     let mut word = random::next(map.seed);
-    let mut v = 0;
-    while v < nodes {
+    for v in 0..map.nodes {
         word = random::next(random::next(word));
         fill_node(map, rule, most, v, word, lists);
-        v += 1;
     }
 }

@@ -1,8 +1,9 @@
 // The generated maps, each by a rule for how many arcs leave a node, where they lead and what they cost (document 01, "Edges").
 use crate::random;
+use test_reference_map::map;
 use test_reference_map::map::Lists;
-use test_reference_map::{map, words};
 
+// A rule is a number, since the families of maps count through the rules and a map is drawn by it.
 pub const RANDOM: u32 = 0;
 
 pub const GRID: u32 = 1;
@@ -71,29 +72,15 @@ pub fn small(rule: u32, number: u32) -> Map {
 
 // Sums and products of small numbers.
 pub fn plus(a: u32, b: u32) -> u32 {
-    std::num::wrapping_add_u32(a, b)
+    a.wrapping_add(b)
 }
 
 pub fn minus(a: u32, b: u32) -> u32 {
-    if a < b {
-        return 0;
-    }
-    a - b
-}
-
-fn times(a: u32, b: u32) -> u32 {
-    (words::product(a as u64, b as u64) % 4294967296) as u32
-}
-
-fn over(a: u32, b: u32) -> u32 {
-    if b == 0 {
-        return 0;
-    }
-    a / b
+    a.saturating_sub(b)
 }
 
 pub fn rest(a: u32, b: u32) -> u32 {
-    minus(a, times(over(a, b), b))
+    a.checked_rem(b).unwrap_or(a)
 }
 
 // How many arcs leave node v.
@@ -102,20 +89,13 @@ fn degree(map: Map, v: u32, word: u64) -> u32 {
     let rule = map.rule;
     match rule {
         GRID => 4,
-        CHAIN => least(after, 1),
+        CHAIN => after.min(1),
         EQUAL_STAR | DISTINCT_STAR => star_degree(map, v),
         ALL_DECREASES => after,
         NO_ARCS => 0,
         SAME_DEGREE => map.measure,
         _ => random::below(word, plus(map.measure, 1)),
     }
-}
-
-fn least(a: u32, b: u32) -> u32 {
-    if a < b {
-        return a;
-    }
-    b
 }
 
 // The star's arcs leave its source, node 0.
@@ -133,18 +113,12 @@ fn grid_head(map: Map, v: u32, slot: u32) -> u32 {
     let right = plus(v, 1);
     let down = plus(v, width);
     match slot {
-        0 => one_of((plus(column, 1) < width) & (right < map.nodes), right, v),
-        1 => one_of(column > 0, minus(v, 1), v),
-        2 => one_of(down < map.nodes, down, v),
-        _ => one_of(v >= width, minus(v, width), v),
+        0 if plus(column, 1) < width && right < map.nodes => right,
+        1 if column > 0 => minus(v, 1),
+        2 if down < map.nodes => down,
+        3 if v >= width => minus(v, width),
+        _ => v,
     }
-}
-
-fn one_of(first: bool, a: u32, b: u32) -> u32 {
-    if first {
-        return a;
-    }
-    b
 }
 
 // A node of the same half.
@@ -215,26 +189,24 @@ fn cost(map: Map, slot: u32, word: u64) -> u32 {
         EQUAL_STAR => map.ceiling,
         DISTINCT_STAR => distinct_cost(map, slot),
         ZERO_COSTS => rare_cost(map, word),
-        ALL_DECREASES => times(map.measure, plus(times(2, slot), 1)),
+        ALL_DECREASES => map.measure.wrapping_mul(plus(slot.wrapping_mul(2), 1)),
         _ => any_cost(map, word),
     }
 }
 
 fn put(lists: &mut Lists, list: u64, place: u32, word: u32) {
-    map::set(lists, list, place as u64, word as u64);
+    map::set(lists, list, u64::from(place), u64::from(word));
 }
 
 // The arcs of node v from one number on; where the generator has got to.
 fn fill_node(map: Map, v: u32, first: u32, count: u32, begin: u64, lists: &mut Lists) -> u64 {
     let mut word = begin;
-    let mut slot = 0;
-    while slot < count {
+    for slot in 0..count {
         let arc = plus(first, slot);
         word = random::next(word);
         put(lists, map::HEADS, arc, head(map, v, slot, word));
         word = random::next(word);
         put(lists, map::COSTS, arc, cost(map, slot, word));
-        slot += 1;
     }
     word
 }
@@ -244,14 +216,12 @@ pub fn fill(map: Map, lists: &mut Lists) -> u32 {
     let nodes = map.nodes;
     let mut word = map.seed;
     let mut arcs = 0;
-    let mut v = 0;
-    while v < nodes {
+    for v in 0..nodes {
         put(lists, map::STARTS, v, arcs);
         word = random::next(word);
         let count = degree(map, v, word);
         word = fill_node(map, v, arcs, count, word, lists);
         arcs = plus(arcs, count);
-        v += 1;
     }
     put(lists, map::STARTS, nodes, arcs);
     arcs

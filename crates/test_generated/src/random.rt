@@ -8,15 +8,12 @@ pub fn next(word: u64) -> u64 {
 // A number below a bound of at most 2^20, from the high bits, which repeat the least.
 pub fn below(word: u64, bound: u32) -> u32 {
     let number = (word / 4096 % 1048576) as u32;
-    if bound == 0 {
-        return 0;
-    }
-    number % bound
+    number.checked_rem(bound).unwrap_or(0)
 }
 
 // Where the numbers of a case begin.
 pub fn seed(family: u32, number: u32) -> u64 {
-    let first = words::product(family as u64, 1000003);
-    let second = words::product(number as u64, 7919);
+    let first = words::product(u64::from(family), 1000003);
+    let second = words::product(u64::from(number), 7919);
     next(next(words::sum(words::sum(first, second), 1990)))
 }

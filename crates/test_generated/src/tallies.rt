@@ -46,10 +46,8 @@ fn print_number(rt: &impl Print, tallies: &Table, number: u64) -> io::Result<()>
 
 // A line for each number below an end.
 pub fn print_below(rt: &impl Print, tallies: &Table, end: u64) -> io::Result<()> {
-    let mut number = 0;
-    while number < end {
+    for number in 0..end {
         print_number(rt, tallies, number)?;
-        number += 1;
     }
     Ok(())
 }

@@ -2,29 +2,58 @@
 // or of those that they are read with, is put to an edge.
 use test_generated::{edges, maps, random};
 
-// No arc.
-const NOWHERE: u32 = 4294967295;
+// How the tails of the arcs come.
+#[derive(Clone, Copy)]
+pub enum Order {
+    Falling,
+    One,
+    Rising,
+    Any,
+}
 
-// The p line stands before arc number `problem`, and a second one before arc number `again`. Of arc `edge_arc` the tail, the head or the cost
-// is `edge_number`, by `edge_field`. The last four are what the file is read with.
+// A number of an arc.
+#[derive(Clone, Copy, PartialEq)]
+pub enum Field {
+    Tail,
+    Head,
+    Cost,
+}
+
+// A number of an arc that is put to an edge.
+#[derive(Clone, Copy)]
+pub struct Edge {
+    pub arc: u32,
+    pub field: Field,
+    pub number: u32,
+}
+
+// The p line stands before arc number `problem`, and a second one before arc number `again`. The last four are what the file is read with.
 #[derive(Clone, Copy)]
 pub struct Road {
     pub nodes: u32,
     pub arcs: u32,
     pub ceiling: u32,
-    pub order: u32,
+    pub order: Order,
     pub seed: u64,
     pub told_nodes: u32,
     pub told_arcs: u32,
-    pub problem: u32,
-    pub again: u32,
-    pub edge_arc: u32,
-    pub edge_field: u32,
-    pub edge_number: u32,
+    pub problem: Option<u32>,
+    pub again: Option<u32>,
+    pub edge: Option<Edge>,
     pub given: u32,
     pub starts: u32,
     pub heads: u32,
     pub costs: u32,
+}
+
+// Any is as often as the others together.
+fn any_order(word: u64) -> Order {
+    match random::below(word, 6) {
+        0 => Order::Falling,
+        1 => Order::One,
+        2 => Order::Rising,
+        _ => Order::Any,
+    }
 }
 
 fn most_nodes(large: bool) -> u32 {
@@ -61,15 +90,13 @@ pub fn draw(family: u32, number: u32) -> Road {
         nodes,
         arcs,
         ceiling,
-        order: random::below(fourth, 6),
+        order: any_order(fourth),
         seed: fifth,
         told_nodes: nodes,
         told_arcs: arcs,
-        problem: 0,
-        again: NOWHERE,
-        edge_arc: NOWHERE,
-        edge_field: 0,
-        edge_number: 0,
+        problem: Some(0),
+        again: None,
+        edge: None,
         given: ceiling,
         starts: lent(maps::plus(nodes, 1), first),
         heads: lent(arcs, second),
@@ -79,73 +106,77 @@ pub fn draw(family: u32, number: u32) -> Road {
 
 // n and m of the p line: 0, the most and one more; one less and one more than there are.
 fn with_told(road: Road, word: u64) -> Road {
-    let mut changed = road;
-    let n = road.nodes;
-    let m = road.arcs;
+    let mut told = road;
     match random::below(word, 6) {
-        0 => changed.told_nodes = edges::one_of(random::next(word), 0, 4097, 9999999),
-        1 => changed.told_nodes = maps::minus(n, 1),
-        2 => changed.told_arcs = edges::one_of(random::next(word), 65536, 65537, 9999999),
-        3 => changed.told_arcs = maps::minus(m, 1),
-        4 => changed.told_arcs = maps::plus(m, 1),
+        0 => told.told_nodes = edges::one_of(random::next(word), 0, 4097, 9999999),
+        1 => told.told_nodes = maps::minus(road.nodes, 1),
+        2 => told.told_arcs = edges::one_of(random::next(word), 65536, 65537, 9999999),
+        3 => told.told_arcs = maps::minus(road.arcs, 1),
+        4 => told.told_arcs = maps::plus(road.arcs, 1),
         _ => {
-            changed.told_nodes = 4096;
-            changed.starts = 4097;
+            told.told_nodes = 4096;
+            told.starts = 4097;
         }
     }
-    changed
+    told
 }
 
 // A list a word too short.
 fn with_short(road: Road, word: u64) -> Road {
-    let mut changed = road;
+    let mut short = road;
     match random::below(word, 3) {
-        0 => changed.starts = road.nodes,
-        1 => changed.heads = maps::minus(road.arcs, 1),
-        _ => changed.costs = maps::minus(road.arcs, 1),
+        0 => short.starts = road.nodes,
+        1 => short.heads = maps::minus(road.arcs, 1),
+        _ => short.costs = maps::minus(road.arcs, 1),
     }
-    changed
+    short
 }
 
 // A ceiling at its most, above that, or too low.
 fn with_ceiling(road: Road, word: u64) -> Road {
-    let mut changed = road;
     let second = random::next(word);
-    let low = random::below(second, maps::plus(road.ceiling, 1));
-    match random::below(word, 3) {
-        0 => changed.given = edges::one_of(second, 1048575, 1048576, 4294967295),
-        _ => changed.given = low,
-    }
-    changed
+    let given = match random::below(word, 3) {
+        0 => edges::one_of(second, 1048575, 1048576, 4294967295),
+        _ => random::below(second, maps::plus(road.ceiling, 1)),
+    };
+    Road { given, ..road }
 }
 
 // The p line behind some arcs, twice, or not at all.
 fn with_problem(road: Road, word: u64) -> Road {
-    let mut changed = road;
     let place = random::below(random::next(word), maps::plus(road.arcs, 1));
+    let mut changed = road;
     match random::below(word, 3) {
-        0 => changed.problem = place,
-        1 => changed.again = place,
-        _ => changed.problem = NOWHERE,
+        0 => changed.problem = Some(place),
+        1 => changed.again = Some(place),
+        _ => changed.problem = None,
     }
     changed
 }
 
+fn any_field(word: u64) -> Field {
+    match random::below(word, 3) {
+        0 => Field::Tail,
+        1 => Field::Head,
+        _ => Field::Cost,
+    }
+}
+
 // A tail or a head at an end of 1 to n or past it, a cost at the ceiling, above it, or of eight digits.
 fn with_arc(road: Road, word: u64) -> Road {
-    let mut changed = road;
     let second = random::next(word);
     let third = random::next(second);
-    let field = random::below(second, 3);
-    changed.edge_arc = random::below(word, road.arcs);
-    changed.edge_field = field;
-    if field == 2 {
-        let above = edges::after(road.ceiling);
-        changed.edge_number = edges::one_of(third, road.ceiling, above, 10000000);
-        return changed;
+    let arc = random::below(word, road.arcs);
+    let field = any_field(second);
+    let number = match field {
+        Field::Tail | Field::Head => edges::one_of(third, 0, road.nodes, edges::after(road.nodes)),
+        Field::Cost => edges::one_of(third, road.ceiling, edges::after(road.ceiling), 10000000),
+    };
+    let edge = Edge { arc, field, number };
+    Road {
+        edge: Some(edge),
+        ..road
     }
-    changed.edge_number = edges::one_of(third, 0, road.nodes, edges::after(road.nodes));
-    changed
 }
 
 // The file with a number at an edge.

@@ -14,14 +14,9 @@ pub struct Heap {
 
 // ceil(log) of a number up to 2^20: the least exponent whose power is not below the number.
 fn logarithm(base: u64, number: u64) -> u64 {
-    let mut exponent = 0;
-    while exponent < 20 {
-        if words::power(base, exponent) >= number {
-            return exponent;
-        }
-        exponent += 1;
-    }
-    exponent
+    (0..20)
+        .find(|exponent| words::power(base, *exponent) >= number)
+        .unwrap_or(20)
 }
 
 pub fn heap_of(levels: u64, n: u64, ceiling: u64, segments: u64) -> Heap {
@@ -57,10 +52,8 @@ pub fn size(heap: Heap, i: u64) -> u64 {
 // base + base^2 + .. + base^i
 fn powers_to(base: u64, i: u64) -> u64 {
     let mut total = 0;
-    let mut exponent = 0;
-    while exponent < i {
-        exponent += 1;
-        total = words::sum(total, words::power(base, exponent));
+    for exponent in 0..i {
+        total = words::sum(total, words::power(base, words::sum(exponent, 1)));
     }
     total
 }
@@ -86,10 +79,8 @@ fn set_bound(table: &mut Table, i: u64, number: u64) {
 
 pub fn first_bounds(heap: Heap, table: &mut Table) {
     let last = heap.buckets;
-    let mut i = 1;
-    while i < last {
+    for i in 1..last {
         set_bound(table, i, first_bound(heap, i));
-        i += 1;
     }
     set_bound(table, last, heap.top);
 }
@@ -103,24 +94,21 @@ pub struct Found {
 
 // i + 1 for the largest i from `start` down with u(i) below the key, or 1 if there is none. Each bound that is compared is read.
 pub fn search(table: &Table, start: u64, key: u64) -> Found {
-    let mut reads = 0;
-    let mut i = start;
-    while i > 0 {
-        reads = words::sum(reads, 1);
-        if bound(table, i) < key {
-            return Found {
-                bucket: words::sum(i, 1),
-                reads,
-            };
-        }
-        i -= 1;
+    match (1..=start).rev().find(|i| bound(table, *i) < key) {
+        Some(i) => Found {
+            bucket: words::sum(i, 1),
+            reads: words::sum(words::minus(start, i), 1),
+        },
+        None => Found {
+            bucket: 1,
+            reads: start,
+        },
     }
-    Found { bucket: 1, reads }
 }
 
 // The segment of a key in bucket i, counted from the top of its range.
 pub fn segment_of(heap: Heap, table: &Table, i: u64, key: u64) -> u64 {
-    if (heap.levels == 1) | (i == heap.buckets) {
+    if heap.levels == 1 || i == heap.buckets {
         return 1;
     }
     let below = words::minus(bound(table, i), key);
@@ -130,7 +118,7 @@ pub fn segment_of(heap: Heap, table: &Table, i: u64, key: u64) -> u64 {
 
 // The upper end of segment k of bucket i.
 pub fn upper_end(heap: Heap, table: &Table, i: u64, k: u64) -> u64 {
-    if (heap.levels == 1) | (i == heap.buckets) {
+    if heap.levels == 1 || i == heap.buckets {
         return bound(table, i);
     }
     let width = words::power(heap.segments, words::minus(i, 1));
@@ -149,10 +137,8 @@ fn lowest_bound(heap: Heap, d: u64, t: u64) -> u64 {
 // The bounds below bucket j after a removal there.
 pub fn new_bounds(heap: Heap, table: &mut Table, j: u64, d: u64, t: u64) {
     set_bound(table, 1, lowest_bound(heap, d, t));
-    let mut i = 2;
-    while i < j {
+    for i in 2..j {
         let reach = words::sum(bound(table, words::minus(i, 1)), size(heap, i));
         set_bound(table, i, words::least(reach, t));
-        i += 1;
     }
 }

@@ -43,42 +43,20 @@ fn segment_of(heap: Heap, table: &Table, v: u64) -> u64 {
     heap::segment_of(heap, table, bucket_of(table, v), key_of(table, v))
 }
 
-// Whether node v is to be removed before node w: of a lower bucket, or there of a lower segment, or there of a smaller key.
-fn goes_before(heap: Heap, table: &Table, v: u64, w: u64) -> bool {
-    let bucket = bucket_of(table, v);
-    let other = bucket_of(table, w);
-    if bucket != other {
-        return bucket < other;
-    }
-    let segment = segment_of(heap, table, v);
-    let other = segment_of(heap, table, w);
-    if segment != other {
-        return segment < other;
-    }
-    key_of(table, v) < key_of(table, w)
-}
-
-// The node to be removed, of smallest number among equals; n if nothing is labelled.
-fn first(heap: Heap, n: u64, table: &Table) -> u64 {
-    let mut best = n;
-    let mut v = 0;
-    while v < n {
-        if bucket_of(table, v) != 0 {
-            if (best == n) | goes_before(heap, table, v, best) {
-                best = v;
-            }
-        }
-        v += 1;
-    }
-    best
+// The node to be removed, if one is labelled: of the lowest bucket, there of the lowest segment, there of the smallest key, and of the
+// smallest number among equals.
+fn first(heap: Heap, n: u64, table: &Table) -> Option<u64> {
+    (0..n)
+        .filter(|v| bucket_of(table, *v) != 0)
+        .min_by_key(|v| {
+            let segment = segment_of(heap, table, *v);
+            (bucket_of(table, *v), segment, key_of(table, *v))
+        })
 }
 
 // Whether node v stands in segment k of bucket j.
 fn stands_in(heap: Heap, table: &Table, v: u64, j: u64, k: u64) -> bool {
-    if bucket_of(table, v) != j {
-        return false;
-    }
-    segment_of(heap, table, v) == k
+    bucket_of(table, v) == j && segment_of(heap, table, v) == k
 }
 
 // A node is put in the bucket of its key, the search for which starts at a bucket, and what this counts as.
@@ -98,10 +76,8 @@ fn shift(heap: Heap, table: &mut Table, v: u64, j: u64, k: u64) {
 
 // The nodes that are left in segment k of bucket j are shifted.
 fn shift_all(heap: Heap, n: u64, table: &mut Table, j: u64, k: u64) {
-    let mut v = 0;
-    while v < n {
+    for v in 0..n {
         shift(heap, table, v, j, k);
-        v += 1;
     }
 }
 
@@ -127,12 +103,9 @@ fn renew(heap: Heap, n: u64, table: &mut Table, j: u64, k: u64, d: u64) {
     shift_all(heap, n, table, j, k);
 }
 
-// Removal of the minimum: its node, or n if nothing is labelled.
-fn remove(heap: Heap, n: u64, table: &mut Table) -> u64 {
-    let v = first(heap, n, table);
-    if v == n {
-        return n;
-    }
+// Removal of the minimum: its node, if one is labelled.
+fn remove(heap: Heap, n: u64, table: &mut Table) -> Option<u64> {
+    let v = first(heap, n, table)?;
     let j = bucket_of(table, v);
     let k = segment_of(heap, table, v);
     tally_removal(heap, table, j, k);
@@ -140,7 +113,7 @@ fn remove(heap: Heap, n: u64, table: &mut Table) -> u64 {
     if j > 1 {
         renew(heap, n, table, j, k, key_of(table, v));
     }
-    v
+    Some(v)
 }
 
 // Node v with its distance over an arc: inserted, decreased from its present bucket, or left. The mark for none is above every distance.
@@ -168,28 +141,22 @@ fn cost_of(source: u64, lists: &Lists, v: u64, arc: u64) -> u64 {
 }
 
 fn scan(heap: Heap, source: u64, lists: &Lists, table: &mut Table, v: u64) {
-    let end = map::start(lists, words::sum(v, 1));
-    let mut arc = map::start(lists, v);
-    while arc < end {
+    for arc in map::arcs(lists, v) {
         let key = words::sum(key_of(table, v), cost_of(source, lists, v, arc));
         label(heap, table, map::head(lists, arc), key, arc);
-        arc += 1;
     }
 }
 
 // Removals until nothing is labelled; each scanned node's place in the order is kept.
 fn remove_all(heap: Heap, n: u64, source: u64, lists: &Lists, table: &mut Table) -> u64 {
-    let mut scanned = 0;
-    while scanned < n {
-        let v = remove(heap, n, table);
-        if v == n {
+    for scanned in 0..n {
+        let Some(v) = remove(heap, n, table) else {
             return scanned;
-        }
+        };
         nodes::set(table, nodes::STEP_ORDER, scanned, v);
         scan(heap, source, lists, table, v);
-        scanned += 1;
     }
-    scanned
+    n
 }
 
 // Every node in no bucket, at no distance and with no parent, and nothing counted.
@@ -208,11 +175,16 @@ fn placements(table: &Table) -> u64 {
 
 // The counts of a run with one level or with two, and its rows of the table.
 pub fn run(levels: u32, case: Case, lists: &Lists, table: &mut Table) -> Counts {
-    let n = case.nodes as u64;
-    let heap = heap::heap_of(levels as u64, n, case.ceiling as u64, case.segments as u64);
+    let n = u64::from(case.nodes);
+    let heap = heap::heap_of(
+        u64::from(levels),
+        n,
+        u64::from(case.ceiling),
+        u64::from(case.segments),
+    );
     clear(n, table);
     heap::first_bounds(heap, table);
-    let source = case.source as u64;
+    let source = u64::from(case.source);
     label(heap, table, source, 0, nodes::NONE);
     let reached = remove_all(heap, n, source, lists, table);
     Counts {

@@ -15,23 +15,22 @@ pub struct ReversedWords {
     pub old_arcs: u32,
 }
 
-// 8: the least arc whose cost and its head's hold together are above the most, those to the destination included, or m.
-fn first_sum_above(m: u64, lists: &Lists, most: u64) -> u64 {
-    let mut arc = 0;
-    while arc < m {
+// 8: the least arc whose cost and its head's hold together are above the ceiling, those to the destination included.
+fn check_sums(case: Case, lists: &Lists) -> Result<(), Refusal> {
+    let ceiling = u64::from(case.ceiling);
+    for arc in 0..u64::from(case.heads) {
         let hold = map::hold(lists, map::head(lists, arc));
-        if words::sum(map::cost(lists, arc), hold) > most {
-            return arc;
+        if words::sum(map::cost(lists, arc), hold) > ceiling {
+            return refuse(8, arc);
         }
-        arc += 1;
     }
-    arc
+    Ok(())
 }
 
 // 10 of the lists of the reversed map.
-fn reversed_refusal(case: Case, reversed: ReversedWords) -> Refusal {
+fn check_reversed(case: Case, reversed: ReversedWords) -> Result<(), Refusal> {
     let m = case.heads;
-    if (reversed.starts as u64) < words::sum(case.nodes as u64, 1) {
+    if reversed.starts <= case.nodes {
         return refuse(10, 4);
     }
     if reversed.heads < m {
@@ -43,23 +42,18 @@ fn reversed_refusal(case: Case, reversed: ReversedWords) -> Refusal {
     if reversed.old_arcs < m {
         return refuse(10, 7);
     }
-    refuse(0, 0)
+    Ok(())
 }
 
 // The first of 1 to 6, 20, and 7 to 10.
-pub fn refusal(levels: u32, case: Case, reversed: ReversedWords, lists: &Lists) -> Refusal {
-    let found = refusals::list_refusal(levels, case, lists);
-    if found.number != 0 {
-        return found;
-    }
-    let m = case.heads as u64;
-    let arc = first_sum_above(m, lists, case.ceiling as u64);
-    if arc < m {
-        return refuse(8, arc);
-    }
-    let found = refusals::lent_refusal(levels, case);
-    if found.number != 0 {
-        return found;
-    }
-    reversed_refusal(case, reversed)
+pub fn check(
+    levels: u32,
+    case: Case,
+    reversed: ReversedWords,
+    lists: &Lists,
+) -> Result<(), Refusal> {
+    refusals::check_lists(levels, case, lists)?;
+    check_sums(case, lists)?;
+    refusals::check_lent(levels, case)?;
+    check_reversed(case, reversed)
 }

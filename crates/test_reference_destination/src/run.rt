@@ -25,13 +25,11 @@ fn old_number(m: u64, old_arcs: &OldArcs, arc: u64) -> u64 {
 
 // Each parent of a row, where it is an arc, becomes its old number.
 fn rename(case: Case, old_arcs: &OldArcs, table: &mut Table) {
-    let n = case.nodes as u64;
-    let m = case.heads as u64;
-    let mut v = 0;
-    while v < n {
+    let n = u64::from(case.nodes);
+    let m = u64::from(case.heads);
+    for v in 0..n {
         let arc = nodes::get(table, nodes::PARENT, v);
         nodes::set(table, nodes::PARENT, v, old_number(m, old_arcs, arc));
-        v += 1;
     }
 }
 
@@ -56,9 +54,9 @@ pub fn run(
     old_arcs: &mut OldArcs,
     table: &mut Table,
 ) -> Searched {
-    let n = case.nodes as u64;
-    let destination = case.source as u64;
-    reversed::reverse(n, case.heads as u64, lists, reversed, old_arcs);
+    let n = u64::from(case.nodes);
+    let destination = u64::from(case.source);
+    reversed::reverse(n, u64::from(case.heads), lists, reversed, old_arcs);
     let reached = dijkstra::search(n, destination, reversed, table);
     let counts = recount::run(levels, case, reversed, table);
     let steps = differing_steps(n, reached, counts, table);

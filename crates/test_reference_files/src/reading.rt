@@ -1,13 +1,5 @@
 // The lines of a planning file (document 01, "Planning file", and for the sixth field and the holds document 02, paper 2), field by field.
-// What is read from NOWHERE is ill-formed, so that of a line only the place past its last field tells whether all of it is well-formed.
 use test_reference_map::words;
-
-// The place past an ill-formed field: no file is so long.
-pub const NOWHERE: u64 = 4294967295;
-
-const COMMA: u64 = 44;
-
-const LINE_FEED: u64 = 10;
 
 // The digits from a place on, up to 8, and the number that they make.
 #[derive(Clone, Copy)]
@@ -52,88 +44,65 @@ pub struct ArcLine {
     pub next: u64,
 }
 
-fn wide(byte: u8) -> u64 {
-    byte as u64
-}
-
 // A byte of the file; past its end 0, which no field and no line has.
-pub fn byte(bytes: &[u8], place: u64) -> u64 {
-    let i = place as usize;
-    if i < bytes.len() {
-        return wide(bytes[i]);
-    }
-    0
-}
-
-fn is_digit(byte: u64) -> bool {
-    (48 <= byte) & (byte <= 57)
+pub fn byte(bytes: &[u8], place: u64) -> u8 {
+    bytes.get(place as usize).copied().unwrap_or(0)
 }
 
 fn digits(bytes: &[u8], from: u64) -> DigitsRead {
     let mut number = 0;
-    let mut count = 0;
-    while count < 8 {
+    for count in 0..8 {
         let digit = byte(bytes, words::sum(from, count));
-        if !is_digit(digit) {
+        if !digit.is_ascii_digit() {
             return DigitsRead { count, number };
         }
-        number = words::sum(words::product(number, 10), words::minus(digit, 48));
-        count += 1;
+        number = words::sum(words::product(number, 10), u64::from(digit - b'0'));
     }
-    DigitsRead { count, number }
+    DigitsRead { count: 8, number }
 }
 
-// 1 to 7 digits, no leading zero except 0 itself, then the byte that ends the field.
-pub fn field(bytes: &[u8], from: u64, last: u64) -> FieldRead {
-    let read = digits(bytes, from);
-    let count = read.count;
+// 1 to 7 digits, no leading zero except 0 itself, then the byte that ends the field; nothing if it is ill-formed.
+pub fn field(bytes: &[u8], from: u64, last: u8) -> Option<FieldRead> {
+    let DigitsRead { count, number } = digits(bytes, from);
     let past = words::sum(from, count);
-    let zero_leads = (byte(bytes, from) == 48) & (count > 1);
-    if (count < 1) | (count > 7) | zero_leads | (byte(bytes, past) != last) {
-        return FieldRead {
-            number: 0,
-            next: NOWHERE,
-        };
+    let zero_leads = byte(bytes, from) == b'0' && count > 1;
+    if count < 1 || count > 7 || zero_leads || byte(bytes, past) != last {
+        return None;
     }
-    FieldRead {
-        number: read.number,
+    Some(FieldRead {
+        number,
         next: words::sum(past, 1),
-    }
+    })
 }
 
 // K alone, or K and a field that is 1.
-fn header_end(bytes: &[u8], from: u64) -> HeaderEnd {
-    let last = field(bytes, from, LINE_FEED);
-    if last.next != NOWHERE {
-        return HeaderEnd {
+fn header_end(bytes: &[u8], from: u64) -> Option<HeaderEnd> {
+    if let Some(last) = field(bytes, from, b'\n') {
+        return Some(HeaderEnd {
             segments: last.number,
             with_holds: false,
             next: last.next,
-        };
+        });
     }
-    let segments = field(bytes, from, COMMA);
-    let sixth = field(bytes, segments.next, LINE_FEED);
+    let segments = field(bytes, from, b',')?;
+    let sixth = field(bytes, segments.next, b'\n')?;
     if sixth.number != 1 {
-        return HeaderEnd {
-            segments: 0,
-            with_holds: false,
-            next: NOWHERE,
-        };
+        return None;
     }
-    HeaderEnd {
+    Some(HeaderEnd {
         segments: segments.number,
         with_holds: true,
         next: sixth.next,
-    }
+    })
 }
 
-pub fn read_header(bytes: &[u8]) -> Header {
-    let nodes = field(bytes, 0, COMMA);
-    let arcs = field(bytes, nodes.next, COMMA);
-    let ceiling = field(bytes, arcs.next, COMMA);
-    let source = field(bytes, ceiling.next, COMMA);
-    let end = header_end(bytes, source.next);
-    Header {
+pub fn read_header(bytes: &[u8]) -> Option<Header> {
+    let nodes = field(bytes, 0, b',')?;
+    let arcs = field(bytes, nodes.next, b',')?;
+    let ceiling = field(bytes, arcs.next, b',')?;
+    let source = field(bytes, ceiling.next, b',')?;
+    let end = header_end(bytes, source.next)?;
+    Some(Header {
         nodes: nodes.number,
         arcs: arcs.number,
         ceiling: ceiling.number,
@@ -141,22 +110,22 @@ pub fn read_header(bytes: &[u8]) -> Header {
         segments: end.segments,
         with_holds: end.with_holds,
         next: end.next,
-    }
+    })
 }
 
-pub fn read_arc(bytes: &[u8], from: u64) -> ArcLine {
-    let tail = field(bytes, from, COMMA);
-    let head = field(bytes, tail.next, COMMA);
-    let cost = field(bytes, head.next, LINE_FEED);
-    ArcLine {
+pub fn read_arc(bytes: &[u8], from: u64) -> Option<ArcLine> {
+    let tail = field(bytes, from, b',')?;
+    let head = field(bytes, tail.next, b',')?;
+    let cost = field(bytes, head.next, b'\n')?;
+    Some(ArcLine {
         tail: tail.number,
         head: head.number,
         cost: cost.number,
         next: cost.next,
-    }
+    })
 }
 
 // The line of a hold.
-pub fn read_hold(bytes: &[u8], from: u64) -> FieldRead {
-    field(bytes, from, LINE_FEED)
+pub fn read_hold(bytes: &[u8], from: u64) -> Option<FieldRead> {
+    field(bytes, from, b'\n')
 }

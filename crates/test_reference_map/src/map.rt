@@ -1,5 +1,6 @@
 // The lists of a map in one: starts, heads, costs and holds, each with words past the most that a run is lent.
 use crate::words;
+use std::ops::Range;
 
 pub type Lists = [u32; 139296];
 
@@ -12,29 +13,25 @@ pub const COSTS: u64 = 69648;
 
 pub const HOLDS: u64 = 135192;
 
-fn wide(word: u32) -> u64 {
-    word as u64
-}
-
 // The word of a list at a place.
 pub fn get(lists: &Lists, list: u64, place: u64) -> u64 {
-    let i = words::sum(list, place) as usize;
-    if i < 139296 {
-        return wide(lists[i]);
-    }
-    0
+    words::word(lists, words::sum(list, place))
 }
 
 pub fn set(lists: &mut Lists, list: u64, place: u64, number: u64) {
-    let i = words::sum(list, place) as usize;
-    if i < 139296 {
-        lists[i] = (number % 4294967296) as u32;
+    if let Some(word) = lists.get_mut(words::sum(list, place) as usize) {
+        *word = (number % 4294967296) as u32;
     }
 }
 
 // The first arc of node v; of the node after the last, the number past all arcs.
 pub fn start(lists: &Lists, v: u64) -> u64 {
     get(lists, STARTS, v)
+}
+
+// The arcs of node v in number order.
+pub fn arcs(lists: &Lists, v: u64) -> Range<u64> {
+    start(lists, v)..start(lists, words::sum(v, 1))
 }
 
 pub fn head(lists: &Lists, arc: u64) -> u64 {

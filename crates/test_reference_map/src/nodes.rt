@@ -3,6 +3,7 @@ use crate::words;
 
 pub type Table = [u64; 49152];
 
+// A row is a number, since the place of what it keeps is worked out of it.
 pub const DISTANCE: u64 = 0;
 
 pub const PARENT: u64 = 1;
@@ -43,17 +44,12 @@ fn place(row: u64, v: u64) -> usize {
 }
 
 pub fn get(table: &Table, row: u64, v: u64) -> u64 {
-    let i = place(row, v);
-    if i < 49152 {
-        return table[i];
-    }
-    0
+    table.get(place(row, v)).copied().unwrap_or(0)
 }
 
 pub fn set(table: &mut Table, row: u64, v: u64, number: u64) {
-    let i = place(row, v);
-    if i < 49152 {
-        table[i] = number;
+    if let Some(kept) = table.get_mut(place(row, v)) {
+        *kept = number;
     }
 }
 
@@ -63,22 +59,13 @@ pub fn add(table: &mut Table, row: u64, v: u64, more: u64) {
 
 // The first numbers of a row are all the same.
 pub fn fill(table: &mut Table, row: u64, count: u64, number: u64) {
-    let mut v = 0;
-    while v < count {
+    for v in 0..count {
         set(table, row, v, number);
-        v += 1;
     }
 }
 
 // The places up to a count at which two rows differ.
 pub fn differing(table: &Table, row: u64, other: u64, count: u64) -> u64 {
-    let mut found = 0;
-    let mut v = 0;
-    while v < count {
-        if get(table, row, v) != get(table, other, v) {
-            found = words::sum(found, 1);
-        }
-        v += 1;
-    }
-    found
+    let places = (0..count).filter(|v| get(table, row, *v) != get(table, other, *v));
+    places.count() as u64
 }

@@ -1,10 +1,11 @@
-// What a call is refused for (document 01, "What a call returns"). Number 0 stands for none.
-#[derive(Clone, Copy)]
+// What a call is refused for (document 01, "What a call returns"): a number as the documents count them, since the programs print it, and a
+// place.
+#[derive(Clone, Copy, PartialEq)]
 pub struct Refusal {
     pub number: u64,
     pub place: u64,
 }
 
-pub fn refuse(number: u64, place: u64) -> Refusal {
-    Refusal { number, place }
+pub fn refuse<T>(number: u64, place: u64) -> Result<T, Refusal> {
+    Err(Refusal { number, place })
 }

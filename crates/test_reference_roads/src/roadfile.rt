@@ -1,6 +1,6 @@
 // A road file read into the lists of a map, or what it is refused for (document 02, paper 1).
-use crate::arcs::Arcs;
-use crate::lines::Line;
+use crate::arcs::{Arc, Arcs};
+use crate::lines::{Kind, Line};
 use crate::{arcs, lines};
 use test_reference_map::map::Lists;
 use test_reference_map::refusal::{Refusal, refuse};
@@ -15,152 +15,138 @@ pub struct Lent {
     pub costs: u64,
 }
 
-// How far a file is read: the lines and the place past them, whether the `p` line is among them, its n and m, and the arcs.
-#[derive(Clone, Copy)]
-struct Passed {
-    lines: u64,
-    at: u64,
-    headed: bool,
-    nodes: u64,
-    arcs: u64,
-    read: u64,
-}
-
-// What a file is refused for; of one that is read number 0, n and m.
-#[derive(Clone, Copy)]
-pub struct Outcome {
-    pub number: u64,
-    pub place: u64,
+// n and m.
+#[derive(Clone, Copy, PartialEq)]
+pub struct Size {
     pub nodes: u64,
     pub arcs: u64,
 }
 
-// 1, 4 and 2.
-fn number_refusal(n: u64, m: u64, ceiling: u64) -> u64 {
-    if (n < 1) | (n > 4096) {
-        return 1;
-    }
-    if m > 65536 {
-        return 4;
-    }
-    if ceiling > 1048575 {
-        return 2;
-    }
-    0
+// How far a file is read: the lines and the place past them, what the `p` line says if it is among them, and the arcs.
+#[derive(Clone, Copy)]
+struct Passed {
+    lines: u64,
+    at: u64,
+    told: Option<Size>,
+    read: u64,
 }
 
-// 19, those of its numbers, then 10.
-fn problem_refusal(passed: Passed, lent: Lent, line: Line) -> Refusal {
-    if passed.headed {
+// 1, 4 and 2.
+fn check_numbers(told: Size, ceiling: u64) -> Result<(), Refusal> {
+    if told.nodes < 1 || told.nodes > 4096 {
+        return refuse(1, 0);
+    }
+    if told.arcs > 65536 {
+        return refuse(4, 0);
+    }
+    if ceiling > 1048575 {
+        return refuse(2, 0);
+    }
+    Ok(())
+}
+
+// The `p` line: 19, those of its numbers, then 10.
+fn check_problem(passed: Passed, lent: Lent, told: Size) -> Result<(), Refusal> {
+    if passed.told.is_some() {
         return refuse(19, words::sum(passed.lines, 1));
     }
-    let number = number_refusal(line.first, line.second, lent.ceiling);
-    if number != 0 {
-        return refuse(number, 0);
-    }
-    if lent.starts <= line.first {
+    check_numbers(told, lent.ceiling)?;
+    if lent.starts <= told.nodes {
         return refuse(10, 0);
     }
-    if lent.heads < line.second {
+    if lent.heads < told.arcs {
         return refuse(10, 1);
     }
-    if lent.costs < line.second {
+    if lent.costs < told.arcs {
         return refuse(10, 2);
     }
-    refuse(0, 0)
+    Ok(())
 }
 
 fn is_node(number: u64, n: u64) -> bool {
-    (number >= 1) & (number <= n)
+    number >= 1 && number <= n
 }
 
-// 19, 12, 7 and 8. Before the `p` line m counts as 0.
-fn arc_refusal(passed: Passed, lent: Lent, line: Line) -> Refusal {
-    if passed.read >= passed.arcs {
+// The line of an arc: 19, 12, 7 and 8. Before the `p` line m counts as 0.
+fn check_arc(passed: Passed, lent: Lent, tail: u64, head: u64, cost: u64) -> Result<(), Refusal> {
+    let told = passed.told.unwrap_or(Size { nodes: 0, arcs: 0 });
+    if passed.read >= told.arcs {
         return refuse(19, words::sum(passed.lines, 1));
     }
-    if !is_node(line.first, passed.nodes) {
+    if !is_node(tail, told.nodes) {
         return refuse(12, passed.read);
     }
-    if !is_node(line.second, passed.nodes) {
+    if !is_node(head, told.nodes) {
         return refuse(7, passed.read);
     }
-    if line.third > lent.ceiling {
+    if cost > lent.ceiling {
         return refuse(8, passed.read);
     }
-    refuse(0, 0)
+    Ok(())
 }
 
-fn line_refusal(passed: Passed, lent: Lent, line: Line) -> Refusal {
-    let kind = line.kind;
-    match kind {
-        lines::COMMENT => refuse(0, 0),
-        lines::PROBLEM => problem_refusal(passed, lent, line),
-        lines::ARC => arc_refusal(passed, lent, line),
-        _ => refuse(18, words::sum(passed.lines, 1)),
-    }
-}
-
-// A line more is passed.
-fn pass(passed: Passed, line: Line, arcs: &mut Arcs) -> Passed {
-    let mut more = passed;
-    more.lines = words::sum(passed.lines, 1);
-    more.at = line.next;
-    if line.kind == lines::PROBLEM {
-        more.headed = true;
-        more.nodes = line.first;
-        more.arcs = line.second;
-    }
-    if line.kind == lines::ARC {
-        arcs::keep(arcs, passed.read, line);
-        more.read = words::sum(passed.read, 1);
-    }
-    more
-}
-
-fn refused(number: u64, place: u64) -> Outcome {
-    Outcome {
-        number,
-        place,
-        nodes: 0,
-        arcs: 0,
+// A line more is passed, unless it is refused.
+fn pass(passed: Passed, lent: Lent, line: Line, arcs: &mut Arcs) -> Result<Passed, Refusal> {
+    let more = Passed {
+        lines: words::sum(passed.lines, 1),
+        at: line.next,
+        ..passed
+    };
+    match line.kind {
+        Kind::Comment => Ok(more),
+        Kind::Problem { nodes, arcs } => {
+            let told = Size { nodes, arcs };
+            check_problem(passed, lent, told)?;
+            Ok(Passed {
+                told: Some(told),
+                ..more
+            })
+        }
+        Kind::Arc { tail, head, cost } => {
+            check_arc(passed, lent, tail, head, cost)?;
+            let arc = Arc {
+                tail: words::minus(tail, 1),
+                head: words::minus(head, 1),
+                cost,
+            };
+            arcs::keep(arcs, passed.read, arc);
+            Ok(Passed {
+                read: words::sum(passed.read, 1),
+                ..more
+            })
+        }
     }
 }
 
 // At the end of the file: 19 with the last line if the `p` line or an arc lacks.
-fn finish(passed: Passed, arcs: &Arcs, lists: &mut Lists) -> Outcome {
-    if !passed.headed | (passed.read < passed.arcs) {
-        return refused(19, words::most(passed.lines, 1));
-    }
-    arcs::group(arcs, passed.nodes, passed.arcs, lists);
-    Outcome {
-        number: 0,
-        place: 0,
-        nodes: passed.nodes,
-        arcs: passed.arcs,
+fn finish(passed: Passed, arcs: &Arcs, lists: &mut Lists) -> Result<Size, Refusal> {
+    match passed.told {
+        Some(told) if passed.read >= told.arcs => {
+            arcs::group(arcs, told.nodes, told.arcs, lists);
+            Ok(told)
+        }
+        _ => refuse(19, words::most(passed.lines, 1)),
     }
 }
 
-// What a file's bytes give; the lists are those of its map if it is read. It has no more lines than bytes.
-pub fn read(bytes: &[u8], lent: Lent, arcs: &mut Arcs, lists: &mut Lists) -> Outcome {
+// What a file's bytes give; the lists are those of its map if it is read.
+pub fn read(bytes: &[u8], lent: Lent, arcs: &mut Arcs, lists: &mut Lists) -> Result<Size, Refusal> {
     let end = bytes.len() as u64;
     let mut passed = Passed {
         lines: 0,
         at: 0,
-        headed: false,
-        nodes: 0,
-        arcs: 0,
+        told: None,
         read: 0,
     };
-    let mut turn = 0;
-    while turn < end && passed.at < end {
-        let line = lines::line_at(bytes, passed.at);
-        let found = line_refusal(passed, lent, line);
-        if found.number != 0 {
-            return refused(found.number, found.place);
+    // A file has no more lines than bytes.
+    for _ in 0..end {
+        if passed.at >= end {
+            break;
         }
-        passed = pass(passed, line, arcs);
-        turn += 1;
+        let Some(line) = lines::line_at(bytes, passed.at) else {
+            return refuse(18, words::sum(passed.lines, 1));
+        };
+        passed = pass(passed, lent, line, arcs)?;
     }
     finish(passed, arcs, lists)
 }

@@ -3,22 +3,11 @@ use test_reference_map::map::Lists;
 use test_reference_map::nodes::Table;
 use test_reference_map::{map, nodes, words};
 
-fn nearer(table: &Table, v: u64, w: u64) -> bool {
-    nodes::get(table, nodes::DISTANCE, v) < nodes::get(table, nodes::DISTANCE, w)
-}
-
-// The labelled node of smallest distance, and of smallest number among equals; n if none is labelled.
-fn nearest(n: u64, table: &Table) -> u64 {
-    let mut best = n;
-    let mut v = 0;
-    while v < n {
-        let labelled = nodes::get(table, nodes::MARK, v) == nodes::LABELLED;
-        if labelled & ((best == n) | nearer(table, v, best)) {
-            best = v;
-        }
-        v += 1;
-    }
-    best
+// The labelled node of smallest distance, and of smallest number among equals.
+fn nearest(n: u64, table: &Table) -> Option<u64> {
+    (0..n)
+        .filter(|v| nodes::get(table, nodes::MARK, *v) == nodes::LABELLED)
+        .min_by_key(|v| nodes::get(table, nodes::DISTANCE, *v))
 }
 
 fn label(table: &mut Table, v: u64, distance: u64, parent: u64) {
@@ -48,11 +37,8 @@ fn relax(lists: &Lists, table: &mut Table, spent: u64, arc: u64) {
 // The arcs of a node in number order.
 fn scan(source: u64, lists: &Lists, table: &mut Table, v: u64) {
     let spent = leaving(source, lists, table, v);
-    let end = map::start(lists, words::sum(v, 1));
-    let mut arc = map::start(lists, v);
-    while arc < end {
+    for arc in map::arcs(lists, v) {
         relax(lists, table, spent, arc);
-        arc += 1;
     }
 }
 
@@ -67,16 +53,13 @@ fn start(n: u64, source: u64, table: &mut Table) {
 // Distances, parents and the order scanned; how many nodes are reached.
 pub fn search(n: u64, source: u64, lists: &Lists, table: &mut Table) -> u64 {
     start(n, source, table);
-    let mut scanned = 0;
-    while scanned < n {
-        let v = nearest(n, table);
-        if v == n {
+    for scanned in 0..n {
+        let Some(v) = nearest(n, table) else {
             return scanned;
-        }
+        };
         nodes::set(table, nodes::MARK, v, nodes::SCANNED);
         nodes::set(table, nodes::ORDER, scanned, v);
         scan(source, lists, table, v);
-        scanned += 1;
     }
-    scanned
+    n
 }

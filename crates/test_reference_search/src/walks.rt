@@ -16,35 +16,24 @@ fn over(source: u64, lists: &Lists, table: &Table, tail: u64, arc: u64) -> u64 {
     behind
 }
 
-// 1 if the walk over an arc is cheaper than those found.
-fn try_arc(source: u64, lists: &Lists, table: &mut Table, tail: u64, arc: u64) -> u64 {
+// Whether the walk over an arc is cheaper than those found, of which it then is one.
+fn try_arc(source: u64, lists: &Lists, table: &mut Table, tail: u64, arc: u64) -> bool {
     let head = map::head(lists, arc);
     let cost = over(source, lists, table, tail, arc);
-    if cost < nodes::get(table, nodes::WALK, head) {
+    let cheaper = cost < nodes::get(table, nodes::WALK, head);
+    if cheaper {
         nodes::set(table, nodes::WALK, head, cost);
-        return 1;
     }
-    0
+    cheaper
 }
 
-// How many arcs of a node have made a walk cheaper.
-fn try_node(source: u64, lists: &Lists, table: &mut Table, v: u64) -> u64 {
-    let end = map::start(lists, words::sum(v, 1));
-    let mut found = 0;
-    let mut arc = map::start(lists, v);
-    while arc < end {
-        found = words::sum(found, try_arc(source, lists, table, v, arc));
-        arc += 1;
-    }
-    found
-}
-
-fn try_nodes(n: u64, source: u64, lists: &Lists, table: &mut Table) -> u64 {
-    let mut found = 0;
-    let mut v = 0;
-    while v < n {
-        found = words::sum(found, try_node(source, lists, table, v));
-        v += 1;
+// Whether an arc of any node has made a walk cheaper.
+fn try_arcs(n: u64, source: u64, lists: &Lists, table: &mut Table) -> bool {
+    let mut found = false;
+    for v in 0..n {
+        for arc in map::arcs(lists, v) {
+            found |= try_arc(source, lists, table, v, arc);
+        }
     }
     found
 }
@@ -52,12 +41,10 @@ fn try_nodes(n: u64, source: u64, lists: &Lists, table: &mut Table) -> u64 {
 // The cheapest walk of one arc or more to each node; it has at most n arcs, so that n rounds find it.
 fn walks(n: u64, source: u64, lists: &Lists, table: &mut Table) {
     nodes::fill(table, nodes::WALK, n, nodes::NONE);
-    let mut round = 0;
-    while round < n {
-        if try_nodes(n, source, lists, table) == 0 {
+    for _ in 0..n {
+        if !try_arcs(n, source, lists, table) {
             return;
         }
-        round += 1;
     }
 }
 

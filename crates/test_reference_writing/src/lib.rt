@@ -4,7 +4,6 @@
 use test_reference_map::case::Case;
 use test_reference_map::map;
 use test_reference_map::map::Lists;
-use test_reference_search::refusals;
 use test_rows::bytes;
 
 // Each function that writes gives the place past what it has written.
@@ -13,31 +12,24 @@ fn append(file: &mut [u8], at: usize, number: u64, ended_by: u8) -> usize {
 }
 
 fn any_hold(n: u64, lists: &Lists) -> bool {
-    let mut v = 0;
-    while v < n {
-        if map::hold(lists, v) > 0 {
-            return true;
-        }
-        v += 1;
-    }
-    false
+    (0..n).any(|v| map::hold(lists, v) > 0)
 }
 
 // Of line 1 the fields before K.
 fn write_sizes(file: &mut [u8], case: Case) -> usize {
-    let second = append(file, 0, case.nodes as u64, b',');
-    let third = append(file, second, case.heads as u64, b',');
-    let fourth = append(file, third, case.ceiling as u64, b',');
-    append(file, fourth, case.source as u64, b',')
+    let second = append(file, 0, u64::from(case.nodes), b',');
+    let third = append(file, second, u64::from(case.heads), b',');
+    let fourth = append(file, third, u64::from(case.ceiling), b',');
+    append(file, fourth, u64::from(case.source), b',')
 }
 
 fn write_header(file: &mut [u8], case: Case, held: bool) -> usize {
     let fifth = write_sizes(file, case);
     if held {
-        let sixth = append(file, fifth, case.segments as u64, b',');
+        let sixth = append(file, fifth, u64::from(case.segments), b',');
         return append(file, sixth, 1, b'\n');
     }
-    append(file, fifth, case.segments as u64, b'\n')
+    append(file, fifth, u64::from(case.segments), b'\n')
 }
 
 fn write_arc(file: &mut [u8], at: usize, tail: u64, arc: u64, lists: &Lists) -> usize {
@@ -46,34 +38,30 @@ fn write_arc(file: &mut [u8], at: usize, tail: u64, arc: u64, lists: &Lists) -> 
     append(file, third, map::cost(lists, arc), b'\n')
 }
 
-fn write_arcs(file: &mut [u8], from: usize, n: u64, m: u64, lists: &Lists) -> usize {
+fn write_arcs(file: &mut [u8], from: usize, n: u64, lists: &Lists) -> usize {
     let mut next = from;
-    let mut tail = 0;
-    let mut arc = 0;
-    while arc < m {
-        tail = refusals::tail_from(n, lists, tail, arc);
-        next = write_arc(file, next, tail, arc, lists);
-        arc += 1;
+    for tail in 0..n {
+        for arc in map::arcs(lists, tail) {
+            next = write_arc(file, next, tail, arc, lists);
+        }
     }
     next
 }
 
 fn write_holds(file: &mut [u8], from: usize, n: u64, lists: &Lists) -> usize {
     let mut next = from;
-    let mut v = 0;
-    while v < n {
+    for v in 0..n {
         next = append(file, next, map::hold(lists, v), b'\n');
-        v += 1;
     }
     next
 }
 
 // The planning file of a map; how many bytes it has.
 pub fn write(file: &mut [u8], case: Case, lists: &Lists) -> usize {
-    let n = case.nodes as u64;
+    let n = u64::from(case.nodes);
     let held = any_hold(n, lists);
     let arcs = write_header(file, case, held);
-    let holds = write_arcs(file, arcs, n, case.heads as u64, lists);
+    let holds = write_arcs(file, arcs, n, lists);
     if held {
         return write_holds(file, holds, n, lists);
     }

@@ -30,15 +30,10 @@ fn act(rt: &impl Print, line: &[u8], file: &mut File, written: usize) -> io::Res
 
 fn act_all(rt: &impl Print, input: &[u8]) -> io::Result<()> {
     let mut file = [0u8; 1400000];
-    let mut at = 0;
     let mut written = 0;
-    while at < input.len() {
-        let end = rows::line_end(input, at);
-        written = act(rt, &input[at..end], &mut file, written)?;
-        if end == input.len() {
-            return Ok(());
-        }
-        at = end + 1;
+    for line in input.split_inclusive(|byte| *byte == b'\n') {
+        let row = line.strip_suffix(b"\n").unwrap_or(line);
+        written = act(rt, row, &mut file, written)?;
     }
     Ok(())
 }

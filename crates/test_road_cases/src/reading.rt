@@ -1,9 +1,10 @@
 // The row that has the file read. Lists are lent with words of no meaning in them, and all their words go into the sums that are printed, so
 // that every word written or left shows.
-use dimacs::DimacsAnswer;
+use dimacs::RoadSize;
+use model::Fault;
 use std::io;
 use test_rows::lists::front;
-use test_rows::printing::{print_byte_sums, print_number, print_sums};
+use test_rows::printing::{print_number, print_sums};
 use test_rows::rows::Row;
 
 // Row: read C STARTS,HEADS,COSTS SHOWN
@@ -35,47 +36,36 @@ pub fn read(rt: &impl Print, row: Row, file: &[u8]) -> io::Result<()> {
 fn print_file(rt: &impl Print, file: &[u8]) -> io::Result<()> {
     rt.write_all(b"bytes ")?;
     rt.print(file.len() as u64)?;
-    print_byte_sums(rt, file)?;
+    print_sums(rt, file)?;
     rt.write_all(b"\n")
 }
 
 // Number and place, n and m.
-fn print_answer(rt: &impl Print, answer: DimacsAnswer) -> io::Result<()> {
+fn print_answer(rt: &impl Print, answer: Result<RoadSize, Fault>) -> io::Result<()> {
     match answer {
-        DimacsAnswer::Read { nodes, arcs } => print_numbers(rt, 0, 0, nodes as u64, arcs as u64),
-        DimacsAnswer::Refused { number, place } => {
-            print_numbers(rt, number as u64, place as u64, 0, 0)
+        Ok(size) => print_numbers(rt, [0, 0, size.nodes as u64, size.arcs as u64]),
+        Err(fault) => {
+            print_numbers(
+                rt,
+                [u64::from(fault.kind.number()), fault.place as u64, 0, 0],
+            )
         }
     }
 }
 
-fn print_numbers(
-    rt: &impl Print,
-    number: u64,
-    place: u64,
-    nodes: u64,
-    arcs: u64,
-) -> io::Result<()> {
+fn print_numbers(rt: &impl Print, numbers: [u64; 4]) -> io::Result<()> {
     rt.write_all(b"answer")?;
-    print_number(rt, number)?;
-    print_number(rt, place)?;
-    print_number(rt, nodes)?;
-    print_number(rt, arcs)?;
+    for number in numbers {
+        print_number(rt, number)?;
+    }
     rt.write_all(b"\n")
-}
-
-fn wide(word: u32) -> u64 {
-    word as u64
 }
 
 // The first words of a list.
 fn print_words(rt: &impl Print, name: &[u8], list: &[u32], count: u32) -> io::Result<()> {
-    let end = count as usize;
     rt.write_all(name)?;
-    let mut i = 0;
-    while i < end && i < list.len() {
-        print_number(rt, wide(list[i]))?;
-        i += 1;
+    for word in list.iter().take(count as usize) {
+        print_number(rt, u64::from(*word))?;
     }
     rt.write_all(b"\n")
 }

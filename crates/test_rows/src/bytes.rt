@@ -12,10 +12,8 @@ pub fn put(file: &mut [u8], at: usize, byte: u8) -> usize {
 // The bytes from a place on.
 pub fn append(file: &mut [u8], at: usize, bytes: &[u8], from: usize) -> usize {
     let mut next = at;
-    let mut i = from;
-    while i < bytes.len() {
-        next = put(file, next, bytes[i]);
-        i += 1;
+    for byte in bytes.iter().skip(from) {
+        next = put(file, next, *byte);
     }
     next
 }
@@ -34,9 +32,5 @@ pub fn append_number(file: &mut [u8], at: usize, number: u32, ended_by: u8) -> u
 
 // The file made so far.
 pub fn made(file: &[u8], length: usize) -> &[u8] {
-    if length > file.len() {
-        return file;
-    }
-    let end = length;
-    &file[0..end]
+    file.get(..length).unwrap_or(file)
 }

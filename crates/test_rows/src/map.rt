@@ -27,29 +27,24 @@ pub fn place(list: u32, at: u32) -> usize {
 }
 
 pub fn word_at(map: &[u32], at: usize) -> u32 {
-    if at < map.len() {
-        return map[at];
-    }
-    0
+    map.get(at).copied().unwrap_or(0)
 }
 
 // Row: words LIST PLACE WORD,WORD,..
 pub fn put_words(map: &mut Map, row: Row, line: &[u8]) {
     let mut next = row.words;
-    let mut i = place(row.n1, row.n2);
-    while i < 143368 && next < line.len() {
+    for word in map.iter_mut().skip(place(row.n1, row.n2)) {
+        if next >= line.len() {
+            break;
+        }
         let read = crate::rows::field_at(line, next);
-        map[i] = read.value;
+        *word = read.value;
         next = read.next;
-        i += 1;
     }
 }
 
 pub fn quotient(number: u32, divisor: u32) -> u32 {
-    if divisor == 0 {
-        return 0;
-    }
-    number / divisor
+    number.checked_div(divisor).unwrap_or(0)
 }
 
 // Drawing takes every second number of the generator 1,664,525 x + 1,013,904,223 modulo 2^32.
@@ -57,7 +52,7 @@ fn next(word: u32, drawing: bool, step: u32) -> u32 {
     if drawing {
         return ((word as u64 * 389569705 + 1196435762) % 4294967296) as u32;
     }
-    std::num::wrapping_add_u32(word, step)
+    word.wrapping_add(step)
 }
 
 // A divisor takes away the generator's low bits, which repeat soon.
@@ -75,13 +70,12 @@ fn drawn(word: u32, drawing: bool, divisor: u32, modulus: u32) -> u32 {
 // draw LIST FROM,END FIRST,DIVISOR,MODULUS
 pub fn spread(map: &mut Map, row: Row) {
     let drawing = row.word == b'd';
+    let from = place(row.n1, row.n2);
     let end = place(row.n1, row.n3);
     let mut word = row.n4;
-    let mut i = place(row.n1, row.n2);
-    while i < end && i < 143368 {
-        map[i] = drawn(word, drawing, row.n5, row.n6);
+    for filled in map.iter_mut().take(end).skip(from) {
+        *filled = drawn(word, drawing, row.n5, row.n6);
         word = next(word, drawing, row.n5);
-        i += 1;
     }
 }
 
@@ -89,8 +83,5 @@ pub fn spread(map: &mut Map, row: Row) {
 pub fn part(map: &[u32], from: u32, words: u32) -> &[u32] {
     let start = from as usize;
     let end = start + words as usize;
-    if end > map.len() {
-        return map;
-    }
-    &map[start..end]
+    map.get(start..end).unwrap_or(map)
 }

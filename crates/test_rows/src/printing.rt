@@ -12,10 +12,8 @@ pub fn print_number(rt: &impl Print, number: u64) -> io::Result<()> {
 }
 
 pub fn print_words(rt: &impl Print, list: &[u32]) -> io::Result<()> {
-    let mut i = 0;
-    while i < list.len() {
-        print_number(rt, wide(list[i]))?;
-        i += 1;
+    for word in list {
+        print_number(rt, u64::from(*word))?;
     }
     Ok(())
 }
@@ -26,36 +24,13 @@ fn plus(sum: u64, more: u64) -> u64 {
     sum % 4611686018427387904 + more % 4611686018427387904
 }
 
-fn wide(word: u32) -> u64 {
-    word as u64
-}
-
-fn wide_byte(byte: u8) -> u64 {
-    byte as u64
-}
-
-// A list's plain sum and its sum weighted by place, the last word once and each earlier one once more.
-pub fn print_sums(rt: &impl Print, list: &[u32]) -> io::Result<()> {
+// The plain sum of a list of bytes or words and its sum weighted by place, the last word once and each earlier one once more.
+pub fn print_sums<T: Copy + Into<u64>>(rt: &impl Print, list: &[T]) -> io::Result<()> {
     let mut plain: u64 = 0;
     let mut weighted: u64 = 0;
-    let mut i = 0;
-    while i < list.len() {
-        plain = plus(plain, wide(list[i]));
+    for word in list {
+        plain = plus(plain, (*word).into());
         weighted = plus(weighted, plain);
-        i += 1;
-    }
-    print_number(rt, plain)?;
-    print_number(rt, weighted)
-}
-
-pub fn print_byte_sums(rt: &impl Print, list: &[u8]) -> io::Result<()> {
-    let mut plain: u64 = 0;
-    let mut weighted: u64 = 0;
-    let mut i = 0;
-    while i < list.len() {
-        plain = plus(plain, wide_byte(list[i]));
-        weighted = plus(weighted, plain);
-        i += 1;
     }
     print_number(rt, plain)?;
     print_number(rt, weighted)

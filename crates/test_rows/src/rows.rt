@@ -7,14 +7,10 @@ pub fn line_end(input: &[u8], at: usize) -> usize
     ensures lower_bound { at ≤ result }
     ensures upper_bound { result ≤ length input.now }
 {
-    let mut end = at;
-    while end < input.len() {
-        if input[end] == b'\n' {
-            return end;
-        }
-        end += 1;
+    match input[at..].iter().position(|byte| *byte == b'\n') {
+        Some(behind) => at + behind,
+        None => input.len(),
     }
-    end
 }
 
 // `next` is where the field behind it starts.
@@ -41,16 +37,16 @@ fn longer(value: u32, byte: u8) -> u32 {
 // The field that starts at a byte; one that is not there counts as 0.
 pub fn field_at(line: &[u8], at: usize) -> Field {
     let mut value: u32 = 0;
-    let mut next = at;
-    while next < line.len() {
-        let byte = line[next];
-        next += 1;
-        if byte < b'0' {
-            return Field { value, next };
+    for (i, byte) in line.iter().enumerate().skip(at) {
+        if *byte < b'0' {
+            return Field { value, next: i + 1 };
         }
-        value = longer(value, byte);
+        value = longer(value, *byte);
     }
-    Field { value, next }
+    Field {
+        value,
+        next: line.len(),
+    }
 }
 
 // The first letter of a row's word and the row's numbers in their order; where the text behind the word starts, that behind the first number,

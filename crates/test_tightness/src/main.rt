@@ -4,30 +4,9 @@
 // the count, its bound, and how many thousandths of the bound it is.
 #![tactic(auto)]
 
-use model::{Counts, Node, RunAnswer};
+use model::{Counts, Fault, Node, Run};
 use std::io;
-
-// A difference that is not below 0.
-fn minus(a: u64, b: u64) -> u64 {
-    if a < b {
-        return 0;
-    }
-    a - b
-}
-
-// Sums of numbers far below 2^62, so that the remainders take nothing away.
-fn plus(a: u64, b: u64) -> u64 {
-    a % 4611686018427387904 + b % 4611686018427387904
-}
-
-// Factors stay below 2^32.
-fn times(a: u64, b: u64) -> u64 {
-    a % 4294967296 * (b % 4294967296)
-}
-
-fn wide(word: u32) -> u64 {
-    word as u64
-}
+use theory::Levels;
 
 fn print_number(rt: &impl Print, number: u64) -> io::Result<()> {
     rt.write_all(b",")?;
@@ -36,182 +15,145 @@ fn print_number(rt: &impl Print, number: u64) -> io::Result<()> {
 
 // A count, its bound, and the share of it in thousandths; none where the bound is 0.
 fn print_share(rt: &impl Print, count: u32, most: u64) -> io::Result<()> {
-    print_number(rt, wide(count))?;
+    let count = u64::from(count);
+    print_number(rt, count)?;
     print_number(rt, most)?;
-    if most == 0 {
-        rt.write_all(b",-")?;
-    } else {
-        print_number(rt, times(wide(count), 1000) / most)?;
+    match count.saturating_mul(1000).checked_div(most) {
+        Some(share) => print_number(rt, share),
+        None => rt.write_all(b",-"),
     }
-    Ok(())
+}
+
+#[derive(Clone, Copy)]
+enum Heap {
+    OneLevel,
+    TwoLevel,
+}
+
+impl Heap {
+    fn name(self) -> &'static [u8] {
+        match self {
+            Heap::OneLevel => b",one",
+            Heap::TwoLevel => b",two",
+        }
+    }
+
+    fn levels(self, map: Map) -> Levels {
+        match self {
+            Heap::OneLevel => Levels::One,
+            Heap::TwoLevel => Levels::Two {
+                segments: map.segments,
+            },
+        }
+    }
+
+    // How many segments a removal may look at.
+    fn segments(self, map: Map) -> u32 {
+        match self {
+            Heap::OneLevel => 0,
+            Heap::TwoLevel => map.segments,
+        }
+    }
 }
 
 // The counts of an accepted run beside m - r + 1, r × B + m - r + 1, r × (B + segments) and r × (B - 1) + 2 × placements, the last by
 // document 02, paper 3.
 fn print_shares(
     rt: &impl Print,
-    arcs: u64,
-    segments: u32,
+    map: Map,
+    heap: Heap,
     reached: u32,
     buckets: u32,
     counts: Counts,
 ) -> io::Result<()> {
-    let spare = minus(plus(arcs, 1), wide(reached));
-    print_number(rt, wide(reached))?;
+    let arcs = map.heads.len() as u64;
+    let segments = u64::from(heap.segments(map));
+    let removals = u64::from(reached);
+    let spare = arcs.saturating_add(1).saturating_sub(removals);
+    print_number(rt, removals)?;
     print_number(rt, arcs)?;
-    print_number(rt, wide(buckets))?;
-    print_number(rt, wide(segments))?;
+    print_number(rt, u64::from(buckets))?;
+    print_number(rt, segments)?;
     print_share(rt, counts.decreases, spare)?;
-    let held = times(wide(reached), wide(buckets));
-    print_share(rt, counts.placements, plus(held, spare))?;
-    print_share(
-        rt,
-        counts.looks,
-        plus(held, times(wide(reached), wide(segments))),
-    )?;
-    let twice = times(2, wide(counts.placements));
-    print_share(rt, counts.reads, plus(minus(held, wide(reached)), twice))
+    let held = removals.saturating_mul(u64::from(buckets));
+    print_share(rt, counts.placements, held.saturating_add(spare))?;
+    let looked_at = removals.saturating_mul(segments);
+    print_share(rt, counts.looks, held.saturating_add(looked_at))?;
+    let others = held.saturating_sub(removals);
+    let twice = u64::from(counts.placements).saturating_mul(2);
+    print_share(rt, counts.reads, others.saturating_add(twice))
 }
 
-fn print_run(
-    rt: &impl Print,
-    name: &[u8],
-    heap: &[u8],
-    arcs: u64,
+// A map without holds, under the name of its lines, and K of its two-level heap.
+#[derive(Clone, Copy)]
+struct Map<'a> {
+    name: &'a [u8],
+    nodes: u32,
+    ceiling: u32,
     segments: u32,
-    answer: RunAnswer,
-) -> io::Result<()> {
-    rt.write_all(name)?;
-    rt.write_all(heap)?;
-    match answer {
-        RunAnswer::Accepted {
-            reached,
-            buckets,
-            counts,
-        } => print_shares(rt, arcs, segments, reached, buckets, counts)?,
-        RunAnswer::Refused { number, place } => {
-            print_number(rt, wide(number))?;
-            print_number(rt, place as u64)?;
+    starts: &'a [u32],
+    heads: &'a [u32],
+    costs: &'a [u32],
+    holds: &'a [u32],
+}
+
+fn answer_of(map: Map, heap: Heap) -> Result<Run, Fault> {
+    let mut distances = [0u32; 4096];
+    let mut parents = [0u32; 4096];
+    let mut roster = [0u32; 4096];
+    let mut work = [0u32; 16768];
+    runs::run(
+        heap.levels(map),
+        map.nodes,
+        map.ceiling,
+        Node(0),
+        map.starts,
+        map.heads,
+        map.costs,
+        map.holds,
+        &mut distances,
+        &mut parents,
+        &mut roster,
+        &mut work,
+    )
+}
+
+fn print_run(rt: &impl Print, map: Map, heap: Heap) -> io::Result<()> {
+    rt.write_all(map.name)?;
+    rt.write_all(heap.name())?;
+    match answer_of(map, heap) {
+        Ok(run) => print_shares(rt, map, heap, run.reached, run.buckets, run.counts)?,
+        Err(fault) => {
+            print_number(rt, u64::from(fault.kind.number()))?;
+            print_number(rt, fault.place as u64)?;
         }
     }
     rt.write_all(b"\n")
 }
 
-fn run_one_level(
-    rt: &impl Print,
-    name: &[u8],
-    n: u32,
-    ceiling: u32,
-    starts: &[u32],
-    heads: &[u32],
-    costs: &[u32],
-    holds: &[u32],
-) -> io::Result<()> {
-    let mut distances = [0u32; 4096];
-    let mut parents = [0u32; 4096];
-    let mut roster = [0u32; 4096];
-    let mut work = [0u32; 16448];
-    let answer = runs::one_level(
-        n,
-        ceiling,
-        Node(0),
-        starts,
-        heads,
-        costs,
-        holds,
-        &mut distances,
-        &mut parents,
-        &mut roster,
-        &mut work,
-    );
-    print_run(rt, name, b",one", heads.len() as u64, 0, answer)
-}
-
-fn run_two_level(
-    rt: &impl Print,
-    name: &[u8],
-    n: u32,
-    ceiling: u32,
-    segments: u32,
-    starts: &[u32],
-    heads: &[u32],
-    costs: &[u32],
-    holds: &[u32],
-) -> io::Result<()> {
-    let mut distances = [0u32; 4096];
-    let mut parents = [0u32; 4096];
-    let mut roster = [0u32; 4096];
-    let mut work = [0u32; 16768];
-    let answer = runs::two_level(
-        n,
-        ceiling,
-        Node(0),
-        segments,
-        starts,
-        heads,
-        costs,
-        holds,
-        &mut distances,
-        &mut parents,
-        &mut roster,
-        &mut work,
-    );
-    print_run(rt, name, b",two", heads.len() as u64, segments, answer)
-}
-
-fn run_both(
-    rt: &impl Print,
-    name: &[u8],
-    n: u32,
-    ceiling: u32,
-    segments: u32,
-    starts: &[u32],
-    heads: &[u32],
-    costs: &[u32],
-    holds: &[u32],
-) -> io::Result<()> {
-    run_one_level(rt, name, n, ceiling, starts, heads, costs, holds)?;
-    run_two_level(rt, name, n, ceiling, segments, starts, heads, costs, holds)
+fn run_both(rt: &impl Print, map: Map) -> io::Result<()> {
+    print_run(rt, map, Heap::OneLevel)?;
+    print_run(rt, map, Heap::TwoLevel)
 }
 
 // The words first, first + 1, first + 2 and so on.
 fn count_up(list: &mut [u32], first: u32) {
-    let mut word = first;
-    let mut i = 0;
-    while i < list.len() {
-        list[i] = word;
-        word = std::num::wrapping_add_u32(word, 1);
-        i += 1;
+    let mut next = first;
+    for word in list {
+        *word = next;
+        next = next.wrapping_add(1);
     }
 }
 
-// The number `span` below `near`, or the one that stands there once the span has come to 1.
-fn below(near: u32, span: u32, before: u32) -> u32 {
-    if span < 2 {
-        return before;
-    }
-    if near < span {
-        return before;
-    }
-    near - span
-}
-
-// From a place on costs that come nearer to `near` by a divisor each time; those before and behind them stay.
-fn approach(costs: &mut [u32], from: usize, near: u32, far: u32, divisor: u32) {
+// Costs that come nearer to `near` by a divisor each time; those behind them stay, from where the span has come to 1.
+fn approach(costs: &mut [u32], near: u32, far: u32, divisor: u32) {
     let mut span = far;
-    let mut i = from;
-    while i < costs.len() {
-        costs[i] = below(near, span, costs[i]);
-        span = over(span, divisor);
-        i += 1;
+    for cost in costs {
+        if span > 1 && near >= span {
+            *cost = near - span;
+        }
+        span = span.checked_div(divisor).unwrap_or(0);
     }
-}
-
-fn over(a: u32, b: u32) -> u32 {
-    if b == 0 {
-        return 0;
-    }
-    a / b
 }
 
 // One arc of cost C leads to node 1, and from there one to each other node, all of the same distance but a few. Those few are the least of
@@ -223,19 +165,18 @@ fn fall_by_halves(rt: &impl Print) -> io::Result<()> {
     let mut heads = [0u32; 4095];
     count_up(&mut heads, 1);
     let mut costs = [1048575u32; 4095];
-    approach(&mut costs, 1, 1048577, 1048576, 2);
-    let holds = [0u32; 4096];
-    run_both(
-        rt,
-        b"falling through buckets of one level",
-        4096,
-        1048575,
-        32,
-        &starts,
-        &heads,
-        &costs,
-        &holds,
-    )
+    approach(&mut costs[1..], 1048577, 1048576, 2);
+    let map = Map {
+        name: b"falling through buckets of one level",
+        nodes: 4096,
+        ceiling: 1048575,
+        segments: 32,
+        starts: &starts,
+        heads: &heads,
+        costs: &costs,
+        holds: &[0u32; 4096],
+    };
+    run_both(rt, map)
 }
 
 // The same by the sizes of the two-level heap with K = 32, whose segment of the last bucket but one is 32,768 keys wide.
@@ -247,20 +188,19 @@ fn fall_by_segments(rt: &impl Print) -> io::Result<()> {
     count_up(&mut heads, 1);
     let mut costs = [1017920u32; 4095];
     costs[0] = 1048575;
-    approach(&mut costs, 2, 1017921, 32768, 32);
+    approach(&mut costs[2..], 1017921, 32768, 32);
     costs[1] = 33825;
-    let holds = [0u32; 4096];
-    run_both(
-        rt,
-        b"falling through buckets of two levels",
-        4096,
-        1048575,
-        32,
-        &starts,
-        &heads,
-        &costs,
-        &holds,
-    )
+    let map = Map {
+        name: b"falling through buckets of two levels",
+        nodes: 4096,
+        ceiling: 1048575,
+        segments: 32,
+        starts: &starts,
+        heads: &heads,
+        costs: &costs,
+        holds: &[0u32; 4096],
+    };
+    run_both(rt, map)
 }
 
 // A chain of arcs of cost C: each key is found in one of the last two buckets.
@@ -271,18 +211,17 @@ fn look_at_every_bucket(rt: &impl Print) -> io::Result<()> {
     let mut heads = [0u32; 4095];
     count_up(&mut heads, 1);
     let costs = [1048575u32; 4095];
-    let holds = [0u32; 4096];
-    run_both(
-        rt,
-        b"looks at every bucket",
-        4096,
-        1048575,
-        32,
-        &starts,
-        &heads,
-        &costs,
-        &holds,
-    )
+    let map = Map {
+        name: b"looks at every bucket",
+        nodes: 4096,
+        ceiling: 1048575,
+        segments: 32,
+        starts: &starts,
+        heads: &heads,
+        costs: &costs,
+        holds: &[0u32; 4096],
+    };
+    run_both(rt, map)
 }
 
 // A star of equal arcs: each key is found in the last segment of bucket 1.
@@ -292,18 +231,17 @@ fn look_at_every_segment(rt: &impl Print) -> io::Result<()> {
     let mut heads = [0u32; 4095];
     count_up(&mut heads, 1);
     let costs = [63u32; 4095];
-    let holds = [0u32; 4096];
-    run_both(
-        rt,
-        b"looks at every segment",
-        4096,
-        63,
-        64,
-        &starts,
-        &heads,
-        &costs,
-        &holds,
-    )
+    let map = Map {
+        name: b"looks at every segment",
+        nodes: 4096,
+        ceiling: 63,
+        segments: 64,
+        starts: &starts,
+        heads: &heads,
+        costs: &costs,
+        holds: &[0u32; 4096],
+    };
+    run_both(rt, map)
 }
 
 #[derive(Clone, Copy)]
@@ -316,8 +254,8 @@ struct Pair {
 fn next(pair: Pair) -> Pair {
     if pair.head < 361 {
         return Pair {
-            tail: pair.tail,
             head: pair.head + 1,
+            ..pair
         };
     }
     Pair {
@@ -328,14 +266,14 @@ fn next(pair: Pair) -> Pair {
 
 // Node i is at distance 1,000 × i, and by it every later node comes nearer by 1,000.
 fn cost_between(pair: Pair) -> u32 {
-    let ahead = minus(wide(pair.head), wide(pair.tail));
-    (minus(ahead % 1000 * 2, 1) % 2000 * 1000) as u32
+    let ahead = pair.head.saturating_sub(pair.tail) % 1000;
+    (ahead * 2).saturating_sub(1) % 2000 * 1000
 }
 
 // The first pair of a tail: its arcs begin behind those made before.
 fn begin(starts: &mut [u32], pair: Pair, arcs: usize) {
     let i = pair.tail as usize;
-    if i < starts.len() && minus(wide(pair.head), wide(pair.tail)) == 1 {
+    if i < starts.len() && pair.head.saturating_sub(pair.tail) == 1 {
         starts[i] = (arcs % 65536) as u32;
     }
 }
@@ -343,13 +281,11 @@ fn begin(starts: &mut [u32], pair: Pair, arcs: usize) {
 // An arc from each node to each later one.
 fn pair_up(starts: &mut [u32], heads: &mut [u32], costs: &mut [u32]) {
     let mut pair = Pair { tail: 0, head: 1 };
-    let mut i = 0;
-    while i < heads.len() && i < costs.len() {
-        heads[i] = pair.head;
-        costs[i] = cost_between(pair);
-        i += 1;
+    for (i, (head, cost)) in heads.iter_mut().zip(costs).enumerate() {
+        *head = pair.head;
+        *cost = cost_between(pair);
         pair = next(pair);
-        begin(starts, pair, i);
+        begin(starts, pair, i + 1);
     }
 }
 
@@ -360,18 +296,17 @@ fn decrease_at_every_arc(rt: &impl Print) -> io::Result<()> {
     pair_up(&mut starts, &mut heads, &mut costs);
     starts[0] = 0;
     starts[362] = 65341;
-    let holds = [0u32; 362];
-    run_both(
-        rt,
-        b"every arc a decrease",
-        362,
-        721000,
-        64,
-        &starts,
-        &heads,
-        &costs,
-        &holds,
-    )
+    let map = Map {
+        name: b"every arc a decrease",
+        nodes: 362,
+        ceiling: 721000,
+        segments: 64,
+        starts: &starts,
+        heads: &heads,
+        costs: &costs,
+        holds: &[0u32; 362],
+    };
+    run_both(rt, map)
 }
 
 fn main(rt: HostRuntime) -> io::Result<()> {

@@ -1,23 +1,24 @@
 // A run to a destination beside the references: its answer, and every word of the eight lists lent to it (document 02, paper 7).
 use crate::expected::Expected;
-use model::{Node, RunAnswer};
+use model::{Fault, Node, Run};
 use test_generated::lists;
-use test_generated::maps::plus;
 use test_reference_destination::refusals::ReversedWords;
 use test_reference_destination::reversed::OldArcs;
+use test_reference_destination::run::Searched;
 use test_reference_map::case::Case;
 use test_reference_map::map::Lists;
 use test_reference_map::nodes::Table;
+use test_reference_map::refusal::Refusal;
 use test_reference_map::{map, nodes, words};
 use test_reference_search::refusals;
+use theory::Levels;
 
 // Words for the nodes or arcs, past the most that a run is lent.
 type List = [u32; 4112];
 
-// What a run has answered, and the lists lent to it.
-#[derive(Clone, Copy)]
-pub struct Ran {
-    answer: RunAnswer,
+// The lists lent to a run.
+#[derive(Drop)]
+struct Lent {
     distances: List,
     parents: List,
     roster: List,
@@ -28,142 +29,118 @@ pub struct Ran {
     old_arcs: List,
 }
 
-fn one_level(case: Case, lent: ReversedWords, lists: &Lists) -> Ran {
-    let mut distances = [lists::DISTANCES; 4112];
-    let mut parents = [lists::PARENTS; 4112];
-    let mut roster = [lists::ROSTER; 4112];
-    let mut work = [lists::WORK; 16784];
-    let mut starts = [lists::STARTS; 4112];
-    let mut heads = [lists::HEADS; 4112];
-    let mut costs = [lists::COSTS; 4112];
-    let mut old_arcs = [lists::OLD_ARCS; 4112];
-    let answer = destination::one_level_to(
-        case.nodes,
-        case.ceiling,
-        Node(case.source),
-        lists::part(lists, map::STARTS, case.starts),
-        lists::part(lists, map::HEADS, case.heads),
-        lists::part(lists, map::COSTS, case.costs),
-        lists::part(lists, map::HOLDS, case.holds),
-        lists::front(&mut distances, case.distances),
-        lists::front(&mut parents, case.parents),
-        lists::front(&mut roster, case.roster),
-        lists::front(&mut work, case.work),
-        lists::front(&mut starts, lent.starts),
-        lists::front(&mut heads, lent.heads),
-        lists::front(&mut costs, lent.costs),
-        lists::front(&mut old_arcs, lent.old_arcs),
-    );
-    Ran {
-        answer,
-        distances,
-        parents,
-        roster,
-        work,
-        starts,
-        heads,
-        costs,
-        old_arcs,
-    }
-}
-
-fn two_level(case: Case, lent: ReversedWords, lists: &Lists) -> Ran {
-    let mut distances = [lists::DISTANCES; 4112];
-    let mut parents = [lists::PARENTS; 4112];
-    let mut roster = [lists::ROSTER; 4112];
-    let mut work = [lists::WORK; 16784];
-    let mut starts = [lists::STARTS; 4112];
-    let mut heads = [lists::HEADS; 4112];
-    let mut costs = [lists::COSTS; 4112];
-    let mut old_arcs = [lists::OLD_ARCS; 4112];
-    let answer = destination::two_level_to(
-        case.nodes,
-        case.ceiling,
-        Node(case.source),
-        case.segments,
-        lists::part(lists, map::STARTS, case.starts),
-        lists::part(lists, map::HEADS, case.heads),
-        lists::part(lists, map::COSTS, case.costs),
-        lists::part(lists, map::HOLDS, case.holds),
-        lists::front(&mut distances, case.distances),
-        lists::front(&mut parents, case.parents),
-        lists::front(&mut roster, case.roster),
-        lists::front(&mut work, case.work),
-        lists::front(&mut starts, lent.starts),
-        lists::front(&mut heads, lent.heads),
-        lists::front(&mut costs, lent.costs),
-        lists::front(&mut old_arcs, lent.old_arcs),
-    );
-    Ran {
-        answer,
-        distances,
-        parents,
-        roster,
-        work,
-        starts,
-        heads,
-        costs,
-        old_arcs,
-    }
+// What a run has answered, and the lists lent to it.
+#[derive(Drop)]
+pub struct Ran {
+    answer: Result<Run, Fault>,
+    lent: Lent,
 }
 
 // The run with one level or with two; as many words of each list are lent as the case says.
-pub fn run(levels: u32, case: Case, lent: ReversedWords, lists: &Lists) -> Ran {
-    if levels == 1 {
-        return one_level(case, lent, lists);
-    }
-    two_level(case, lent, lists)
+fn answer_of(
+    levels: u32,
+    case: Case,
+    room: ReversedWords,
+    lists: &Lists,
+    lent: &mut Lent,
+) -> Result<Run, Fault> {
+    let n = case.nodes;
+    let ceiling = case.ceiling;
+    let target = Node(case.source);
+    let map_starts = lists::part(lists, map::STARTS, case.starts);
+    let map_heads = lists::part(lists, map::HEADS, case.heads);
+    let map_costs = lists::part(lists, map::COSTS, case.costs);
+    let map_holds = lists::part(lists, map::HOLDS, case.holds);
+    let distances = lists::front(&mut lent.distances, case.distances);
+    let parents = lists::front(&mut lent.parents, case.parents);
+    let roster = lists::front(&mut lent.roster, case.roster);
+    let work = lists::front(&mut lent.work, case.work);
+    let starts = lists::front(&mut lent.starts, room.starts);
+    let heads = lists::front(&mut lent.heads, room.heads);
+    let costs = lists::front(&mut lent.costs, room.costs);
+    let old_arcs = lists::front(&mut lent.old_arcs, room.old_arcs);
+    let kind = match levels {
+        1 => Levels::One,
+        _ => Levels::Two {
+            segments: case.segments,
+        },
+    };
+    destination::run_to(
+        kind, n, ceiling, target, map_starts, map_heads, map_costs, map_holds, distances, parents,
+        roster, work, starts, heads, costs, old_arcs,
+    )
 }
 
-fn numbers_of(answer: RunAnswer) -> [u64; 8] {
+pub fn run(levels: u32, case: Case, room: ReversedWords, lists: &Lists) -> Ran {
+    let mut lent = Lent {
+        distances: [lists::DISTANCES; 4112],
+        parents: [lists::PARENTS; 4112],
+        roster: [lists::ROSTER; 4112],
+        work: [lists::WORK; 16784],
+        starts: [lists::STARTS; 4112],
+        heads: [lists::HEADS; 4112],
+        costs: [lists::COSTS; 4112],
+        old_arcs: [lists::OLD_ARCS; 4112],
+    };
+    let answer = answer_of(levels, case, room, lists, &mut lent);
+    Ran { answer, lent }
+}
+
+fn numbers_of(answer: Result<Run, Fault>) -> [u64; 8] {
     match answer {
-        RunAnswer::Accepted {
-            reached,
-            buckets,
-            counts,
-        } => [
+        Ok(run) => [
             0,
             0,
-            reached as u64,
-            buckets as u64,
-            counts.decreases as u64,
-            counts.placements as u64,
-            counts.looks as u64,
-            counts.reads as u64,
+            run.reached as u64,
+            run.buckets as u64,
+            run.counts.decreases as u64,
+            run.counts.placements as u64,
+            run.counts.looks as u64,
+            run.counts.reads as u64,
         ],
-        RunAnswer::Refused { number, place } => [number as u64, place as u64, 0, 0, 0, 0, 0, 0],
+        Err(fault) => [
+            u64::from(fault.kind.number()),
+            fault.place as u64,
+            0,
+            0,
+            0,
+            0,
+            0,
+            0,
+        ],
+    }
+}
+
+fn numbers_expected(expected: Expected) -> [u64; 8] {
+    match expected {
+        Ok(Searched { counts, .. }) => [
+            0,
+            0,
+            counts.reached,
+            counts.buckets,
+            counts.decreases,
+            counts.placements,
+            counts.looks,
+            counts.reads,
+        ],
+        Err(Refusal { number, place }) => [number, place, 0, 0, 0, 0, 0, 0],
     }
 }
 
 // How many numbers of an answer are not those expected.
-fn differing_numbers(answer: RunAnswer, expected: Expected) -> u64 {
+fn differing_numbers(answer: Result<Run, Fault>, expected: Expected) -> u64 {
     let given = numbers_of(answer);
-    let counts = expected.counts;
-    let wanted = [
-        expected.number,
-        expected.place,
-        counts.reached,
-        counts.buckets,
-        counts.decreases,
-        counts.placements,
-        counts.looks,
-        counts.reads,
-    ];
-    let mut found = 0;
-    let mut i = 0;
-    while i < 8 {
-        found = words::sum(found, lists::differ(given[i], wanted[i]));
-        i += 1;
-    }
-    found
+    let wanted = numbers_expected(expected);
+    let pairs = given.iter().zip(&wanted);
+    pairs.filter(|(one, other)| one != other).count() as u64
 }
 
 // How many words of the lists of a run are not as they are to be, where so many nodes have words.
-fn differing_run(n: u64, reached: u64, cleared: u64, ran: Ran, table: &Table) -> u64 {
-    let in_distances = lists::not_row(&ran.distances, lists::DISTANCES, table, nodes::DISTANCE, n);
-    let in_parents = lists::not_row(&ran.parents, lists::PARENTS, table, nodes::PARENT, n);
-    let in_roster = lists::not_row(&ran.roster, lists::ROSTER, table, nodes::ORDER, reached);
-    let in_work = lists::not_row(&ran.work, lists::WORK, table, lists::CLEARED, cleared);
+fn differing_run(n: u64, reached: u64, cleared: u64, lent: &Lent, table: &Table) -> u64 {
+    let in_distances = lists::not_row(&lent.distances, lists::DISTANCES, table, nodes::DISTANCE, n);
+    let in_parents = lists::not_row(&lent.parents, lists::PARENTS, table, nodes::PARENT, n);
+    let in_roster = lists::not_row(&lent.roster, lists::ROSTER, table, nodes::ORDER, reached);
+    let in_work = lists::not_row(&lent.work, lists::WORK, table, lists::CLEARED, cleared);
     words::sum(
         words::sum(in_distances, in_parents),
         words::sum(in_roster, in_work),
@@ -171,15 +148,15 @@ fn differing_run(n: u64, reached: u64, cleared: u64, ran: Ran, table: &Table) ->
 }
 
 // The same of the reversed map's lists, where so many starts and arcs have words.
-fn differing_map(starts: u32, arcs: u32, ran: Ran, reversed: &Lists, old_arcs: &OldArcs) -> u64 {
+fn differing_map(starts: u32, arcs: u32, lent: &Lent, reversed: &Lists, old_arcs: &OldArcs) -> u64 {
     let of_map = lists::part(reversed, map::STARTS, starts);
-    let in_starts = lists::not_words(&ran.starts, lists::STARTS, of_map);
+    let in_starts = lists::not_words(&lent.starts, lists::STARTS, of_map);
     let of_map = lists::part(reversed, map::HEADS, arcs);
-    let in_heads = lists::not_words(&ran.heads, lists::HEADS, of_map);
+    let in_heads = lists::not_words(&lent.heads, lists::HEADS, of_map);
     let of_map = lists::part(reversed, map::COSTS, arcs);
-    let in_costs = lists::not_words(&ran.costs, lists::COSTS, of_map);
+    let in_costs = lists::not_words(&lent.costs, lists::COSTS, of_map);
     let of_map = lists::part(old_arcs, 0, arcs);
-    let in_old_arcs = lists::not_words(&ran.old_arcs, lists::OLD_ARCS, of_map);
+    let in_old_arcs = lists::not_words(&lent.old_arcs, lists::OLD_ARCS, of_map);
     words::sum(
         words::sum(in_starts, in_heads),
         words::sum(in_costs, in_old_arcs),
@@ -191,24 +168,25 @@ pub fn differences(
     levels: u32,
     case: Case,
     expected: Expected,
-    ran: Ran,
+    ran: &Ran,
     reversed: &Lists,
     old_arcs: &OldArcs,
     table: &Table,
 ) -> u64 {
-    let answer = ran.answer;
-    let numbers = words::sum(differing_numbers(answer, expected), expected.differing);
-    if expected.number != 0 {
-        let in_map = differing_map(0, 0, ran, reversed, old_arcs);
-        return words::sum(
-            numbers,
-            words::sum(in_map, differing_run(0, 0, 0, ran, table)),
-        );
+    let numbers = differing_numbers(ran.answer, expected);
+    let lent = &ran.lent;
+    match expected {
+        Ok(Searched { counts, differing }) => {
+            let n = case.nodes;
+            let cleared = refusals::work_words(levels, n);
+            let in_map = differing_map(n.wrapping_add(1), case.heads, lent, reversed, old_arcs);
+            let in_run = differing_run(u64::from(n), counts.reached, cleared, lent, table);
+            words::sum(words::sum(numbers, differing), words::sum(in_map, in_run))
+        }
+        Err(_) => {
+            let in_map = differing_map(0, 0, lent, reversed, old_arcs);
+            let in_run = differing_run(0, 0, 0, lent, table);
+            words::sum(numbers, words::sum(in_map, in_run))
+        }
     }
-    let n = case.nodes;
-    let cleared = refusals::work_words(levels, n);
-    let in_map = differing_map(plus(n, 1), case.heads, ran, reversed, old_arcs);
-    let counts = expected.counts;
-    let in_run = differing_run(n as u64, counts.reached, cleared, ran, table);
-    words::sum(numbers, words::sum(in_map, in_run))
 }

@@ -1,29 +1,28 @@
 // Cases at the edge of every refusal of a run to a destination (document 02, paper 7): those of test_generated::edges, but for the sums of 8,
 // which are with the hold of an arc's head, and the eight lists of 10.
 use test_generated::edges::{after, one_of};
-use test_generated::maps::minus;
 use test_generated::{edges, random};
 use test_reference_destination::refusals::ReversedWords;
 use test_reference_map::case::Case;
+use test_reference_map::map;
 use test_reference_map::map::Lists;
-use test_reference_map::{map, words};
 
 // What the hold of an arc's head leaves of the ceiling.
 pub fn left_at_head(case: Case, lists: &Lists, arc: u64) -> u32 {
     let head = map::head(lists, arc);
-    if head >= case.nodes as u64 {
+    if head >= u64::from(case.nodes) {
         return case.ceiling;
     }
-    let left = words::minus(case.ceiling as u64, map::hold(lists, head));
-    (left % 4294967296) as u32
+    let left = u64::from(case.ceiling).saturating_sub(map::hold(lists, head));
+    left as u32
 }
 
 // The cost of an arc and its head's hold together are the most there may be, or more.
 fn put_sum(case: Case, word: u64, lists: &mut Lists) {
-    let arc = random::below(word, case.heads) as u64;
+    let arc = u64::from(random::below(word, case.heads));
     let left = left_at_head(case, lists, arc);
     let cost = one_of(random::next(word), left, after(left), 4294967295);
-    map::set(lists, map::COSTS, arc, cost as u64);
+    map::set(lists, map::COSTS, arc, u64::from(cost));
 }
 
 fn put_word(case: Case, refusal: u32, word: u64, lists: &mut Lists) {
@@ -37,12 +36,12 @@ fn put_word(case: Case, refusal: u32, word: u64, lists: &mut Lists) {
 // 10: whether a list is a word too short; it is one list or another besides.
 fn is_short(word: u64, list: u32) -> bool {
     let besides = random::below(random::next(word), 16);
-    (random::below(word, 8) == list) | (besides == list)
+    random::below(word, 8) == list || besides == list
 }
 
 fn cut(short: bool, kept: u32, needed: u32) -> u32 {
     if short {
-        return minus(needed, 1);
+        return needed.saturating_sub(1);
     }
     kept
 }
@@ -57,15 +56,19 @@ fn short_work(word: u64, n: u32) -> u32 {
 }
 
 fn with_lent(case: Case, word: u64) -> Case {
-    let mut changed = case;
     let n = case.nodes;
-    changed.distances = cut(is_short(word, 0), case.distances, n);
-    changed.parents = cut(is_short(word, 1), case.parents, n);
-    changed.roster = cut(is_short(word, 2), case.roster, n);
-    if is_short(word, 3) {
-        changed.work = short_work(word, n);
+    let work = if is_short(word, 3) {
+        short_work(word, n)
+    } else {
+        case.work
+    };
+    Case {
+        distances: cut(is_short(word, 0), case.distances, n),
+        parents: cut(is_short(word, 1), case.parents, n),
+        roster: cut(is_short(word, 2), case.roster, n),
+        work,
+        ..case
     }
-    changed
 }
 
 fn put_number(case: Case, refusal: u32, word: u64) -> Case {

@@ -4,7 +4,7 @@
 // them.
 #![tactic(auto)]
 
-use families::{EDGES, FEW_HEADS, LARGE, SEGMENTS};
+use families::Family;
 use std::io;
 use test_generated::{maps, tallies};
 use test_reference_map::nodes::Table;
@@ -16,54 +16,40 @@ mod expected;
 mod families;
 mod trial;
 
-fn try_family(family: u32, found: &mut Table) -> u64 {
-    let count = families::count(family);
+fn print_family(rt: &impl Print, family: Family, name: &[u8], found: &mut Table) -> io::Result<()> {
     let mut differences = 0;
-    let mut number = 0;
-    while number < count {
+    for number in 0..family.count() {
         differences = words::sum(differences, trial::try_map(family, number, found));
-        number += 1;
     }
-    differences
+    rt.write_all(name)?;
+    tallies::print_found(rt, u64::from(family.count()), differences)
 }
 
-fn print_family(rt: &impl Print, family: u32, name: &[u8], found: &mut Table) -> io::Result<()> {
-    let differences = try_family(family, found);
-    rt.write_all(name)?;
-    tallies::print_found(rt, families::count(family) as u64, differences)
-}
+const FAMILIES: [(Family, &[u8]); 15] = [
+    (Family::Rule(maps::RANDOM), b"random"),
+    (Family::Rule(maps::GRID), b"grids"),
+    (Family::Rule(maps::CHAIN), b"chains"),
+    (Family::Rule(maps::EQUAL_STAR), b"stars of equal arcs"),
+    (Family::Rule(maps::DISTINCT_STAR), b"stars of distinct arcs"),
+    (Family::Rule(maps::ZERO_COSTS), b"zero costs"),
+    (Family::Rule(maps::TWO_PARTS), b"two parts"),
+    (
+        Family::Rule(maps::LOOPS_AND_PARALLELS),
+        b"self-loops and parallel arcs",
+    ),
+    (Family::Rule(maps::ALL_DECREASES), b"every arc a decrease"),
+    (Family::Rule(maps::NO_ARCS), b"m = 0"),
+    (Family::Rule(maps::SAME_DEGREE), b"equal numbers of arcs"),
+    (Family::FewHeads, b"many arcs to few nodes"),
+    (Family::Segments, b"K = 2 to 64"),
+    (Family::Large, b"up to 1024 nodes and 4096 arcs"),
+    (Family::Edges, b"at the edges of refusals"),
+];
 
 fn main(rt: HostRuntime) -> io::Result<()> {
     let mut found = [0u64; 49152];
-    print_family(&rt, maps::RANDOM, b"random", &mut found)?;
-    print_family(&rt, maps::GRID, b"grids", &mut found)?;
-    print_family(&rt, maps::CHAIN, b"chains", &mut found)?;
-    print_family(&rt, maps::EQUAL_STAR, b"stars of equal arcs", &mut found)?;
-    print_family(
-        &rt,
-        maps::DISTINCT_STAR,
-        b"stars of distinct arcs",
-        &mut found,
-    )?;
-    print_family(&rt, maps::ZERO_COSTS, b"zero costs", &mut found)?;
-    print_family(&rt, maps::TWO_PARTS, b"two parts", &mut found)?;
-    print_family(
-        &rt,
-        maps::LOOPS_AND_PARALLELS,
-        b"self-loops and parallel arcs",
-        &mut found,
-    )?;
-    print_family(
-        &rt,
-        maps::ALL_DECREASES,
-        b"every arc a decrease",
-        &mut found,
-    )?;
-    print_family(&rt, maps::NO_ARCS, b"m = 0", &mut found)?;
-    print_family(&rt, maps::SAME_DEGREE, b"equal numbers of arcs", &mut found)?;
-    print_family(&rt, FEW_HEADS, b"many arcs to few nodes", &mut found)?;
-    print_family(&rt, SEGMENTS, b"K = 2 to 64", &mut found)?;
-    print_family(&rt, LARGE, b"up to 1024 nodes and 4096 arcs", &mut found)?;
-    print_family(&rt, EDGES, b"at the edges of refusals", &mut found)?;
+    for (family, name) in FAMILIES {
+        print_family(&rt, family, name, &mut found)?;
+    }
     tallies::print(&rt, &found)
 }

@@ -1,7 +1,6 @@
 // Trials: the map of a number, and both runs to its destination beside the references (document 02, paper 7).
-use crate::families::EDGES;
-use crate::{beside, edges, expected, families};
-use test_generated::maps::plus;
+use crate::families::Family;
+use crate::{beside, edges, expected};
 use test_generated::tallies::Found;
 use test_generated::{lists, tallies};
 use test_reference_destination::refusals::ReversedWords;
@@ -26,12 +25,13 @@ fn try_run(levels: u32, case: Case, lent: ReversedWords, lists: &Lists, found: &
     );
     let ran = beside::run(levels, case, lent, lists);
     let differences = beside::differences(
-        levels, case, expected, ran, &reversed, &old_arcs, &table,
+        levels, case, expected, &ran, &reversed, &old_arcs, &table,
     );
+    let number = expected.err().map_or(0, |refusal| refusal.number);
     tallies::count(
         found,
         Found {
-            number: expected.number,
+            number,
             differences,
         },
     )
@@ -40,21 +40,22 @@ fn try_run(levels: u32, case: Case, lent: ReversedWords, lists: &Lists, found: &
 // Each list has as many words more than it needs as the lists by node have.
 fn lent_of(case: Case, number: u32) -> ReversedWords {
     let more = number % 9;
+    let by_arc = case.heads.wrapping_add(more);
     ReversedWords {
-        starts: plus(case.starts, more),
-        heads: plus(case.heads, more),
-        costs: plus(case.heads, more),
-        old_arcs: plus(case.heads, more),
+        starts: case.starts.wrapping_add(more),
+        heads: by_arc,
+        costs: by_arc,
+        old_arcs: by_arc,
     }
 }
 
 // Both runs to the destination of one map.
-pub fn try_map(family: u32, number: u32, found: &mut Table) -> u64 {
+pub fn try_map(family: Family, number: u32, found: &mut Table) -> u64 {
     let mut lists = [lists::MAP; 139296];
-    let sound = families::fill(family, number, &mut lists);
+    let sound = family.fill(number, &mut lists);
     let mut case = sound;
     let mut lent = lent_of(sound, number);
-    if family == EDGES {
+    if family == Family::Edges {
         let pair = edges::pair_of(number);
         case = edges::put(sound, pair, &mut lists);
         lent = edges::put_reversed(sound, lent, pair);

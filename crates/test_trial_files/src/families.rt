@@ -1,35 +1,46 @@
 // The families of planning files: how many each has, and the file of a number.
 use crate::making;
-use test_damage::Rendered;
+use test_reference_files::printing::Text;
 
-pub const WHOLE: u32 = 0;
-
-pub const DAMAGED: u32 = 1;
-
-pub const WITH_HOLDS: u32 = 2;
-
-pub const SUMS_AT_EDGE: u32 = 3;
-
-pub const DAMAGED_WITH_HOLDS: u32 = 4;
-
-// With holds, ten files for each kind of map and rule of holds; the sums, one for each of these, each of five arcs, and a sum at the ceiling
-// or above.
-pub fn count(family: u32) -> u32 {
-    match family {
-        WHOLE => 300,
-        DAMAGED => 2000,
-        WITH_HOLDS => 600,
-        SUMS_AT_EDGE => 480,
-        _ => 4000,
-    }
+#[derive(Clone, Copy)]
+pub enum Family {
+    Whole,
+    Damaged,
+    WithHolds,
+    SumsAtEdge,
+    DamagedWithHolds,
 }
 
-pub fn file_of(family: u32, number: u32) -> Rendered {
-    match family {
-        WHOLE => making::whole(number, false),
-        DAMAGED => making::damaged(number),
-        WITH_HOLDS => making::with_holds(number),
-        SUMS_AT_EDGE => making::with_sum(number),
-        _ => making::damaged_with_holds(number),
+impl Family {
+    pub fn name(self) -> &'static [u8] {
+        match self {
+            Family::Whole => b"planning files",
+            Family::Damaged => b"damaged planning files",
+            Family::WithHolds => b"planning files with holds",
+            Family::SumsAtEdge => b"planning files with sums at an edge",
+            Family::DamagedWithHolds => b"damaged planning files with holds",
+        }
+    }
+
+    // With holds, ten files for each kind of map and rule of holds; the sums, one for each of these, each of five arcs, and a sum at the
+    // ceiling or above.
+    pub fn count(self) -> u32 {
+        match self {
+            Family::Whole => 300,
+            Family::Damaged => 2000,
+            Family::WithHolds => 600,
+            Family::SumsAtEdge => 480,
+            Family::DamagedWithHolds => 4000,
+        }
+    }
+
+    pub fn file_of(self, number: u32) -> Text {
+        match self {
+            Family::Whole => making::whole(number, false),
+            Family::Damaged => making::damaged(number),
+            Family::WithHolds => making::with_holds(number),
+            Family::SumsAtEdge => making::with_sum(number),
+            Family::DamagedWithHolds => making::damaged_with_holds(number),
+        }
     }
 }

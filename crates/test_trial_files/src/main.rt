@@ -4,6 +4,7 @@
 // text tells has a line: the files for which it is the one to tell, and the differences in them.
 #![tactic(auto)]
 
+use families::Family;
 use std::io;
 use test_generated::tallies;
 use test_reference_map::nodes::Table;
@@ -15,53 +16,24 @@ mod files;
 mod making;
 mod rendering;
 
-fn try_family(family: u32, found: &mut Table) -> u64 {
-    let count = families::count(family);
+fn print_family(rt: &impl Print, family: Family, found: &mut Table) -> io::Result<()> {
     let mut differences = 0;
-    let mut number = 0;
-    while number < count {
-        let file = families::file_of(family, number);
-        let more = tallies::count(found, files::compare(file));
-        differences = words::sum(differences, more);
-        number += 1;
+    for number in 0..family.count() {
+        let one = files::compare(family.file_of(number));
+        differences = words::sum(differences, tallies::count(found, one));
     }
-    differences
-}
-
-fn print_family(rt: &impl Print, family: u32, name: &[u8], found: &mut Table) -> io::Result<()> {
-    let differences = try_family(family, found);
-    rt.write_all(name)?;
-    tallies::print_found(rt, families::count(family) as u64, differences)
+    rt.write_all(family.name())?;
+    tallies::print_found(rt, u64::from(family.count()), differences)
 }
 
 fn main(rt: HostRuntime) -> io::Result<()> {
     let mut found = [0u64; 49152];
-    print_family(&rt, families::WHOLE, b"planning files", &mut found)?;
-    print_family(
-        &rt,
-        families::DAMAGED,
-        b"damaged planning files",
-        &mut found,
-    )?;
+    print_family(&rt, Family::Whole, &mut found)?;
+    print_family(&rt, Family::Damaged, &mut found)?;
     tallies::print(&rt, &found)?;
     let mut found = [0u64; 49152];
-    print_family(
-        &rt,
-        families::WITH_HOLDS,
-        b"planning files with holds",
-        &mut found,
-    )?;
-    print_family(
-        &rt,
-        families::SUMS_AT_EDGE,
-        b"planning files with sums at an edge",
-        &mut found,
-    )?;
-    print_family(
-        &rt,
-        families::DAMAGED_WITH_HOLDS,
-        b"damaged planning files with holds",
-        &mut found,
-    )?;
+    print_family(&rt, Family::WithHolds, &mut found)?;
+    print_family(&rt, Family::SumsAtEdge, &mut found)?;
+    print_family(&rt, Family::DamagedWithHolds, &mut found)?;
     tallies::print(&rt, &found)
 }

@@ -15,36 +15,24 @@ fn any_parent(case: Case, word: u64) -> u32 {
     }
 }
 
-// Up to four, or none.
-fn count_of(damaged: bool, seed: u64) -> u32 {
-    if damaged {
-        return random::below(seed, 4) % 4 + 1;
-    }
-    0
-}
-
-// Some parents of the table are replaced, if they are to be damaged.
-pub fn damage(case: Case, seed: u64, damaged: bool, table: &mut Table) {
-    let count = count_of(damaged, seed);
+// Up to four parents of the table are replaced.
+pub fn damage(case: Case, seed: u64, table: &mut Table) {
+    let count = random::below(seed, 4) % 4 + 1;
     let mut word = seed;
-    let mut i = 0;
-    while i < count {
+    for _ in 0..count {
         word = random::next(random::next(random::next(word)));
-        let v = random::below(word, case.nodes) as u64;
-        let parent = any_parent(case, random::next(word)) as u64;
+        let v = u64::from(random::below(word, case.nodes));
+        let parent = u64::from(any_parent(case, random::next(word)));
         nodes::set(table, nodes::PARENT, v, parent);
-        i += 1;
     }
 }
 
 // The parents of the table as a list.
 pub fn parents_of(table: &Table) -> ByNode {
     let mut parents = [lists::PARENTS; 4112];
-    let mut v = 0;
-    while v < 4096 {
+    for v in 0..4096 {
         let parent = nodes::get(table, nodes::PARENT, v as u64);
         parents[v] = (parent % 4294967296) as u32;
-        v += 1;
     }
     parents
 }

@@ -1,25 +1,24 @@
 // What a run is expected to give: its refusal, or by the references its numbers and a table of its nodes.
 use test_reference_counts::recount;
-use test_reference_map::case::Case;
+use test_reference_map::case::{Case, Counts};
 use test_reference_map::map::Lists;
 use test_reference_map::nodes::Table;
+use test_reference_map::refusal::Refusal;
 use test_reference_map::{nodes, words};
 use test_reference_search::{dijkstra, refusals, walks};
 
-// `highest` is the highest bucket that a removal used. The differing nodes are those at which the references do not agree, of which there
-// are none.
+// The differing nodes are those at which the references do not agree, of which there are none.
 #[derive(Clone, Copy)]
-pub struct Expected {
-    pub number: u64,
-    pub place: u64,
-    pub reached: u64,
-    pub buckets: u64,
-    pub decreases: u64,
-    pub placements: u64,
-    pub looks: u64,
-    pub reads: u64,
-    pub highest: u64,
+pub struct Searched {
+    pub counts: Counts,
     pub differing: u64,
+}
+
+pub type Expected = Result<Searched, Refusal>;
+
+// What a call is refused for; 0 if it is accepted.
+pub fn number_of<T: Drop>(expected: Result<T, Refusal>) -> u64 {
+    expected.err().map_or(0, |refusal| refusal.number)
 }
 
 fn all_differing(n: u64, reached: u64, table: &Table) -> u64 {
@@ -30,42 +29,16 @@ fn all_differing(n: u64, reached: u64, table: &Table) -> u64 {
     words::sum(words::sum(distances, parents), words::sum(order, walks))
 }
 
-fn refused(number: u64, place: u64) -> Expected {
-    Expected {
-        number,
-        place,
-        reached: 0,
-        buckets: 0,
-        decreases: 0,
-        placements: 0,
-        looks: 0,
-        reads: 0,
-        highest: 0,
-        differing: 0,
-    }
-}
-
 // The run with one level or with two; the table is filled where it is accepted.
 pub fn run(levels: u32, case: Case, lists: &Lists, table: &mut Table) -> Expected {
-    let found = refusals::refusal(levels, case, lists);
-    if found.number != 0 {
-        return refused(found.number, found.place);
-    }
-    let n = case.nodes as u64;
-    let source = case.source as u64;
+    refusals::check(levels, case, lists)?;
+    let n = u64::from(case.nodes);
+    let source = u64::from(case.source);
     let reached = dijkstra::search(n, source, lists, table);
     walks::cheapest(n, source, lists, table);
     let counts = recount::run(levels, case, lists, table);
-    Expected {
-        number: 0,
-        place: 0,
-        reached,
-        buckets: counts.buckets,
-        decreases: counts.decreases,
-        placements: counts.placements,
-        looks: counts.looks,
-        reads: counts.reads,
-        highest: counts.highest,
+    Ok(Searched {
+        counts: Counts { reached, ..counts },
         differing: all_differing(n, reached, table),
-    }
+    })
 }

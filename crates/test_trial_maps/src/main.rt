@@ -5,6 +5,7 @@
 // at an edge in which it is the one to return, and the differences in them.
 #![tactic(auto)]
 
+use families::Family;
 use std::io;
 use test_generated::tallies::Found;
 use test_generated::{holds, tallies};
@@ -27,7 +28,7 @@ fn count_if(edge: bool, one: Found, found: &mut Table) -> u64 {
 }
 
 // Both runs on one map with holds by a rule.
-fn try_both(family: u32, rule: u32, number: u32, found: &mut Table) -> u64 {
+fn try_both(family: Family, rule: u32, number: u32, found: &mut Table) -> u64 {
     let edge = families::at_edge(rule);
     let one = trials::try_map(family, rule, 1, number);
     let two = trials::try_map(family, rule, 2, number);
@@ -44,65 +45,57 @@ fn try_both_edges(number: u32, found: &mut Table) -> u64 {
 // Routes by the parents of a run on a map with holds by one rule after the other.
 fn try_damaged(number: u32) -> u64 {
     let rule = number % holds::RULES;
-    let one = trials::try_map(families::DAMAGED_PARENTS, rule, 1, number);
+    let one = trials::try_map(Family::DamagedParents, rule, 1, number);
     one.differences
 }
 
 // One map of a family.
-fn try_number(family: u32, number: u32, found: &mut Table) -> u64 {
+fn try_number(family: Family, number: u32, found: &mut Table) -> u64 {
     match family {
-        families::DAMAGED_PARENTS => try_damaged(number),
-        families::RUNS_AT_EDGES => try_both_edges(number, found),
-        families::ROUTES_AT_EDGES => tallies::count(found, trials::try_route_edge(number)),
+        Family::DamagedParents => try_damaged(number),
+        Family::RunsAtEdges => try_both_edges(number, found),
+        Family::RoutesAtEdges => tallies::count(found, trials::try_route_edge(number)),
         _ => try_both(family, holds::ZERO, number, found),
     }
 }
 
-fn try_family(family: u32, found: &mut Table) -> u64 {
-    let count = families::count(family);
+fn try_family(family: Family, found: &mut Table) -> u64 {
     let mut differences = 0;
-    let mut number = 0;
-    while number < count {
+    for number in 0..family.count() {
         let more = try_number(family, number, found);
         differences = words::sum(differences, more);
-        number += 1;
     }
     differences
 }
 
-// The maps of a family with holds.
-fn try_holds(family: u32, found: &mut Table) -> u64 {
-    let count = families::count_with_holds(family);
+// So many maps of a family with holds.
+fn try_holds(family: Family, count: u32, found: &mut Table) -> u64 {
     let mut differences = 0;
-    let mut i = 0;
-    while i < count {
-        let number = families::number_with_holds(family, i);
+    for i in 0..count {
+        let number = family.number_with_holds(i);
         let more = try_both(family, families::rule_of(i), number, found);
         differences = words::sum(differences, more);
-        i += 1;
     }
     differences
 }
 
-fn try_families(rt: &impl Print, found: &mut Table) -> io::Result<()> {
-    let mut family = 0;
-    while family < families::FAMILIES {
-        let differences = try_family(family, found);
-        families::print_name(rt, family)?;
-        tallies::print_found(rt, families::count(family) as u64, differences)?;
-        if family < families::DAMAGED_PARENTS {
-            let differences = try_holds(family, found);
-            families::print_name(rt, family)?;
-            rt.write_all(b" with holds")?;
-            tallies::print_found(rt, families::count_with_holds(family) as u64, differences)?;
-        }
-        family += 1;
+fn print_family(rt: &impl Print, family: Family, found: &mut Table) -> io::Result<()> {
+    let differences = try_family(family, found);
+    rt.write_all(family.name())?;
+    tallies::print_found(rt, u64::from(family.count()), differences)?;
+    if let Some(count) = family.count_with_holds() {
+        let differences = try_holds(family, count, found);
+        rt.write_all(family.name())?;
+        rt.write_all(b" with holds")?;
+        tallies::print_found(rt, u64::from(count), differences)?;
     }
     Ok(())
 }
 
 fn main(rt: HostRuntime) -> io::Result<()> {
     let mut found = [0u64; 49152];
-    try_families(&rt, &mut found)?;
+    for family in Family::ALL {
+        print_family(&rt, family, &mut found)?;
+    }
     tallies::print(&rt, &found)
 }

@@ -1,27 +1,32 @@
 // Routes beside a plain walk: the answer, every word of the list lent, and the cost of the route (document 01, "Routes").
 use crate::beside::ByNode;
-use model::Node;
-use route::RouteAnswer;
+use crate::expected::number_of;
+use model::{Fault, Node};
 use test_generated::tallies::Found;
 use test_generated::{lists, random};
 use test_reference_map::case::Case;
 use test_reference_map::map::Lists;
 use test_reference_map::nodes::Table;
+use test_reference_map::refusal::Refusal;
 use test_reference_map::{map, nodes, words};
 use test_reference_search::walk;
-use test_reference_search::walk::Walk;
 
-fn differing_answer(answer: RouteAnswer, expected: Walk) -> u64 {
+// Number and place, then how many nodes the route has.
+fn numbers_of(answer: Result<usize, Fault>) -> [u64; 3] {
     match answer {
-        RouteAnswer::Found { nodes } => words::sum(
-            lists::differ(0, expected.number),
-            lists::differ(nodes as u64, expected.nodes),
-        ),
-        RouteAnswer::Refused { number, place } => words::sum(
-            lists::differ(number as u64, expected.number),
-            lists::differ(place as u64, expected.place),
-        ),
+        Ok(nodes) => [0, 0, nodes as u64],
+        Err(fault) => [u64::from(fault.kind.number()), fault.place as u64, 0],
     }
+}
+
+fn differing_numbers(answer: Result<usize, Fault>, expected: Result<u64, Refusal>) -> u64 {
+    let wanted = match expected {
+        Ok(nodes) => [0, 0, nodes],
+        Err(Refusal { number, place }) => [number, place, 0],
+    };
+    let given = numbers_of(answer);
+    let pairs = given.iter().zip(&wanted);
+    pairs.filter(|(one, other)| one != other).count() as u64
 }
 
 // What the route's list has at a place: first the nodes of the walk, source first, past them what it was full of.
@@ -34,14 +39,8 @@ fn node_at(table: &Table, count: u64, i: u64) -> u64 {
 }
 
 fn differing_nodes(list: &ByNode, table: &Table, count: u64) -> u64 {
-    let mut found = 0;
-    let mut i = 0;
-    while i < 4112 {
-        let v = node_at(table, count, i);
-        found = words::sum(found, lists::differ(words::word(list, i), v));
-        i += 1;
-    }
-    found
+    let places = (0..4112).filter(|i| words::word(list, *i) != node_at(table, count, *i));
+    places.count() as u64
 }
 
 // A route over the parents in a list of so many words, and the walk over the parents of the table: what the walk is refused for, and how
@@ -64,32 +63,31 @@ pub fn route(
         Node(destination),
         lists::front(&mut list, room),
     );
-    let walked = walk::route(case, lists, table, destination as u64, room as u64);
-    let numbers = differing_answer(answer, walked);
+    let walked = walk::route(case, lists, table, u64::from(destination), u64::from(room));
+    let numbers = differing_numbers(answer, walked);
+    let nodes = walked.unwrap_or(0);
     Found {
-        number: walked.number,
-        differences: words::sum(numbers, differing_nodes(&list, table, walked.nodes)),
+        number: number_of(walked),
+        differences: words::sum(numbers, differing_nodes(&list, table, nodes)),
     }
 }
 
-// 1 if the walk to a destination costs something else than its distance. Over damaged parents it may.
-fn dear(case: Case, damaged: bool, destination: u32, lists: &Lists, table: &mut Table) -> u64 {
-    if damaged {
-        return 0;
+// 1 if the walk to a destination costs something else than its distance.
+fn dear(case: Case, destination: u32, lists: &Lists, table: &mut Table) -> u64 {
+    let destination = u64::from(destination);
+    let walked = walk::route(case, lists, table, destination, 4096);
+    let distance = nodes::get(table, nodes::DISTANCE, destination);
+    match walked {
+        Ok(nodes) => lists::differ(walk::cost(nodes, lists, table), distance),
+        Err(Refusal { number: 15, .. }) => lists::differ(distance, nodes::NONE),
+        Err(_) => 1,
     }
-    let walked = walk::route(case, lists, table, destination as u64, 4096);
-    let distance = nodes::get(table, nodes::DISTANCE, destination as u64);
-    if walked.number == 15 {
-        return lists::differ(distance, nodes::NONE);
-    }
-    let cost = walk::cost(walked.nodes, lists, table);
-    words::sum(walked.number, lists::differ(cost, distance))
 }
 
 // The first destinations are the last node and the source, the others any node.
 fn destination_of(case: Case, word: u64, number: u32) -> u32 {
     match number {
-        0 => std::num::wrapping_sub_u32(case.nodes, 1),
+        0 => case.nodes.wrapping_sub(1),
         1 => case.source,
         _ => random::below(word, case.nodes),
     }
@@ -103,14 +101,7 @@ fn room_of(case: Case, word: u64, number: u32) -> u32 {
     random::below(word, case.nodes)
 }
 
-fn count_of(damaged: bool) -> u32 {
-    if damaged {
-        return 12;
-    }
-    5
-}
-
-// Routes to several destinations, and their costs.
+// Routes to several destinations, and their costs, which over damaged parents may be any.
 pub fn several(
     case: Case,
     seed: u64,
@@ -119,18 +110,18 @@ pub fn several(
     parents: &ByNode,
     table: &mut Table,
 ) -> u64 {
-    let count = count_of(damaged);
+    let count = if damaged { 12 } else { 5 };
     let mut word = seed;
     let mut found = 0;
-    let mut number = 0;
-    while number < count {
+    for number in 0..count {
         word = random::next(random::next(word));
         let destination = destination_of(case, word, number);
         let room = room_of(case, random::next(word), number);
         let one = route(case, destination, room, lists, parents, table);
-        let costs = dear(case, damaged, destination, lists, table);
-        found = words::sum(found, words::sum(one.differences, costs));
-        number += 1;
+        found = words::sum(found, one.differences);
+        if !damaged {
+            found = words::sum(found, dear(case, destination, lists, table));
+        }
     }
     found
 }

@@ -1,5 +1,7 @@
 // Trials: the map of a number, a run on it beside the references, and routes by the run's parents (document 01, "Edges").
-use crate::{beside, damaged, expected, families, routes_beside};
+use crate::expected::number_of;
+use crate::families::Family;
+use crate::{beside, damaged, expected, routes_beside};
 use test_generated::tallies::Found;
 use test_generated::{case, edges, holds, lists, maps, random};
 use test_reference_map::case::Case;
@@ -8,39 +10,41 @@ use test_reference_map::nodes::Table;
 use test_reference_map::words;
 
 // Routes by the parents of an accepted run.
-fn try_routes(family: u32, case: Case, seed: u64, lists: &Lists, table: &mut Table) -> u64 {
-    let damaged = family == families::DAMAGED_PARENTS;
-    damaged::damage(case, seed, damaged, table);
+fn try_routes(family: Family, case: Case, seed: u64, lists: &Lists, table: &mut Table) -> u64 {
+    let damaged = family == Family::DamagedParents;
+    if damaged {
+        damaged::damage(case, seed, table);
+    }
     let parents = damaged::parents_of(table);
     routes_beside::several(case, seed, damaged, lists, &parents, table)
 }
 
 // A run on the map of a number of a family with holds by a rule, then routes by its parents, which the table has too.
-pub fn try_map(family: u32, rule: u32, levels: u32, number: u32) -> Found {
+pub fn try_map(family: Family, rule: u32, levels: u32, number: u32) -> Found {
     let mut lists = [lists::MAP; 139296];
     let mut table = [0u64; 49152];
-    let map = families::map_of(family, number);
+    let map = family.map_of(number);
     let arcs = maps::fill(map, &mut lists);
-    let sound = case::of_map(map, arcs, families::spare(family, number));
-    let case = families::with_holds(family, rule, map, sound, &mut lists);
+    let sound = case::of_map(map, arcs, family.spare(number));
+    let case = family.with_holds(rule, map, sound, &mut lists);
     let expected = expected::run(levels, case, &lists, &mut table);
     let ran = beside::run(levels, case, &lists);
-    let run = beside::differences(levels, case, expected, ran, &table);
-    let shape = families::shape_fault(family, rule, case, expected);
+    let run = beside::differences(levels, case, expected, &ran, &table);
+    let shape = family.shape_fault(rule, case, expected);
     let mut differences = words::sum(shape, run);
-    if expected.number == 0 {
+    if expected.is_ok() {
         let routes = try_routes(family, case, map.seed, &lists, &mut table);
         differences = words::sum(differences, routes);
     }
     Found {
-        number: expected.number,
+        number: number_of(expected),
         differences,
     }
 }
 
 // The map of a number, with holds by one rule after the other, and its case.
 fn small_case(number: u32, lists: &mut Lists) -> Case {
-    let map = maps::small(maps::RANDOM, std::num::wrapping_add_u32(number, 200000));
+    let map = maps::small(maps::RANDOM, number.wrapping_add(200000));
     let arcs = maps::fill(map, lists);
     holds::fill(map, number % holds::RULES, map.ceiling, lists);
     case::of_map(map, arcs, number % 9)
@@ -67,8 +71,8 @@ pub fn try_edge(levels: u32, number: u32) -> Found {
     let expected = expected::run(levels, case, &lists, &mut table);
     let ran = beside::run(levels, case, &lists);
     Found {
-        number: expected.number,
-        differences: beside::differences(levels, case, expected, ran, &table),
+        number: number_of(expected),
+        differences: beside::differences(levels, case, expected, &ran, &table),
     }
 }
 
@@ -105,8 +109,10 @@ pub fn try_route_edge(number: u32) -> Found {
     let small = small_case(number, &mut lists);
     let expected = expected::run(1, small, &lists, &mut table);
     let ran = beside::run(1, small, &lists);
-    let run = beside::differences(1, small, expected, ran, &table);
-    damaged::damage(small, seed, number % 2 == 0, &mut table);
+    let run = beside::differences(1, small, expected, &ran, &table);
+    if number % 2 == 0 {
+        damaged::damage(small, seed, &mut table);
+    }
     let parents = damaged::parents_of(&table);
     let case = route_case(small, number, seed, &mut lists);
     let destination = destination_of(case, seed);

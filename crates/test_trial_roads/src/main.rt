@@ -13,14 +13,12 @@ mod trial;
 fn try_family(rt: &impl Print, name: &[u8], whole: bool, count: u32) -> io::Result<()> {
     let mut found = [0u64; 49152];
     let mut differences = 0;
-    let mut number = 0;
-    while number < count {
+    for number in 0..count {
         let more = tallies::count(&mut found, trial::try_road(whole, number));
         differences = words::sum(differences, more);
-        number += 1;
     }
     rt.write_all(name)?;
-    tallies::print_found(rt, count as u64, differences)?;
+    tallies::print_found(rt, u64::from(count), differences)?;
     tallies::print_below(rt, &found, 20)
 }
 

@@ -4,65 +4,84 @@ use test_generated::{case, edges, holds, maps, random};
 use test_reference_map::case::Case;
 use test_reference_map::map::Lists;
 
-// The families below this are the rules of test_generated::maps without holds, those from here on the same with holds.
-pub const WITH_HOLDS: u32 = 11;
-
-pub const LARGE: u32 = 22;
-
-pub const EDGES: u32 = 23;
-
-pub fn count(family: u32) -> u32 {
-    match family {
-        LARGE => 20,
-        EDGES => 4000,
-        _ => 200,
-    }
+// The maps of a rule of test_generated::maps, without holds or with, large ones, and small ones at the edges of refusals.
+#[derive(Clone, Copy)]
+pub enum Family {
+    Rule(u32),
+    RuleWithHolds(u32),
+    Large,
+    Edges,
 }
 
-// Every fourth map of the large ones has the most nodes and arcs, the others have any number of nodes.
+// Every fourth of the large maps has the most nodes and arcs, the others have any number of nodes.
 fn large(number: u32) -> Map {
-    let mut map = maps::small(maps::RANDOM, number);
-    map.nodes = random::below(map.seed, 4096) % 4096 + 1;
-    map.source = random::below(random::next(map.seed), map.nodes);
-    map.measure = random::below(random::next(map.seed), 15) % 15 + 1;
+    let map = maps::small(maps::RANDOM, number);
     if number % 4 == 0 {
-        map.rule = maps::SAME_DEGREE;
-        map.nodes = 4096;
-        map.source = 4095;
-        map.measure = 16;
-        map.ceiling = 1048575;
+        return Map {
+            rule: maps::SAME_DEGREE,
+            nodes: 4096,
+            source: 4095,
+            measure: 16,
+            ceiling: 1048575,
+            ..map
+        };
     }
-    map
-}
-
-fn map_of(family: u32, number: u32) -> Map {
-    match family {
-        LARGE => large(number),
-        EDGES => maps::small(maps::RANDOM, std::num::wrapping_add_u32(number, 500000)),
-        _ => maps::small(
-            family % WITH_HOLDS,
-            std::num::wrapping_add_u32(number, 600000),
-        ),
+    let nodes = random::below(map.seed, 4096) % 4096 + 1;
+    Map {
+        nodes,
+        source: random::below(random::next(map.seed), nodes),
+        measure: random::below(random::next(map.seed), 15) % 15 + 1,
+        ..map
     }
 }
 
-// The rules of test_generated::holds in turn; for the maps with holds, those behind the one that gives none.
-fn rule_of(family: u32, number: u32) -> u32 {
-    if family < WITH_HOLDS {
-        return holds::ZERO;
+impl Family {
+    pub fn count(self) -> u32 {
+        match self {
+            Family::Rule(_) | Family::RuleWithHolds(_) => 200,
+            Family::Large => 20,
+            Family::Edges => 4000,
+        }
     }
-    if family < LARGE {
-        return number % 4 + 1;
+
+    fn map_of(self, number: u32) -> Map {
+        match self {
+            Family::Rule(rule) | Family::RuleWithHolds(rule) => {
+                maps::small(rule, number.wrapping_add(600000))
+            }
+            Family::Large => large(number),
+            Family::Edges => maps::small(maps::RANDOM, number.wrapping_add(500000)),
+        }
     }
-    number % holds::RULES
+
+    // The rules of test_generated::holds in turn; for the maps with holds, those behind the one that gives none.
+    fn rule_of_holds(self, number: u32) -> u32 {
+        match self {
+            Family::Rule(_) => holds::ZERO,
+            Family::RuleWithHolds(_) => number % 4 + 1,
+            Family::Large | Family::Edges => number % holds::RULES,
+        }
+    }
+
+    // The map of a number in the lists; its case.
+    pub fn fill(self, number: u32, lists: &mut Lists) -> Case {
+        let map = self.map_of(number);
+        let arcs = maps::fill(map, lists);
+        holds::fill(map, self.rule_of_holds(number), map.ceiling, lists);
+        let case = case::of_map(map, arcs, 0);
+        match self {
+            Family::Edges => with_edges(case, number, lists),
+            _ => case,
+        }
+    }
 }
 
 // No list of nodes is lent to the writer, and every room is tried for its buffer: 20 stands in for 10.
 fn without_10(refusal: u32) -> u32 {
-    if refusal == 10 {
-        return 20;
+    match refusal {
+        10 => 20,
+        _ => refusal,
     }
-    refusal
 }
 
 // One or two numbers or words of the map are put to an edge.
@@ -75,16 +94,4 @@ fn with_edges(case: Case, number: u32, lists: &mut Lists) -> Case {
     edges::words(case, first, third, lists);
     edges::words(case, second, fourth, lists);
     edges::numbers(edges::numbers(case, first, third), second, fourth)
-}
-
-// The map of a number in the lists; its case.
-pub fn fill(family: u32, number: u32, lists: &mut Lists) -> Case {
-    let map = map_of(family, number);
-    let arcs = maps::fill(map, lists);
-    holds::fill(map, rule_of(family, number), map.ceiling, lists);
-    let case = case::of_map(map, arcs, 0);
-    if family == EDGES {
-        return with_edges(case, number, lists);
-    }
-    case
 }

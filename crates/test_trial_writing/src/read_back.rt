@@ -1,51 +1,39 @@
 // A written planning file read again: the numbers of its map and every word of the four lists, with some words of junk behind each.
-use model::Node;
-use reader::PlanAnswer;
+use model::Fault;
+use reader::PlanHeader;
 use test_generated::lists;
 use test_reference_map::case::Case;
 use test_reference_map::map::Lists;
 use test_reference_map::{map, words};
 
-fn differing_answer(answer: PlanAnswer, case: Case) -> u64 {
+// How many numbers of a file that is read are not those of the map.
+fn differing_numbers(answer: Result<PlanHeader, Fault>, case: Case) -> u64 {
     match answer {
-        PlanAnswer::Read {
-            nodes,
-            arcs,
-            ceiling,
-            source,
-            segments,
-        } => differing_numbers(nodes, arcs, ceiling, source, segments, case),
-        PlanAnswer::Refused { number, place } => 1,
+        Ok(header) => {
+            let given = [
+                header.nodes,
+                header.arcs,
+                header.ceiling,
+                header.source.0,
+                header.segments,
+            ];
+            let wanted = [
+                case.nodes,
+                case.heads,
+                case.ceiling,
+                case.source,
+                case.segments,
+            ];
+            let pairs = given.iter().zip(&wanted);
+            pairs.filter(|(one, other)| one != other).count() as u64
+        }
+        Err(_) => 1,
     }
-}
-
-fn differ(a: u32, b: u32) -> u64 {
-    lists::differ(a as u64, b as u64)
-}
-
-fn differing_numbers(
-    nodes: u32,
-    arcs: u32,
-    ceiling: u32,
-    source: Node,
-    segments: u32,
-    case: Case,
-) -> u64 {
-    let sizes = words::sum(differ(nodes, case.nodes), differ(arcs, case.heads));
-    let numbers = words::sum(
-        differ(ceiling, case.ceiling),
-        differ(segments, case.segments),
-    );
-    words::sum(differ(source.0, case.source), words::sum(sizes, numbers))
-}
-
-fn plus(a: u32, b: u32) -> u32 {
-    std::num::wrapping_add_u32(a, b)
 }
 
 // How many words of a list are not those of the map's, or behind them not as before.
 fn differing_words(list: &[u32], full: u32, of_map: &[u32], count: u32) -> u64 {
-    lists::not_words(lists::part(list, 0, plus(count, 8)), full, of_map)
+    lists::not_words(lists::part(list, 0, count.wrapping_add(8)), full, of_map)
 }
 
 type ByArc = [u32; 65544];
@@ -60,8 +48,8 @@ fn differing_lists(
 ) -> u64 {
     let n = case.nodes;
     let m = case.heads;
-    let of_map = lists::part(lists, map::STARTS, plus(n, 1));
-    let in_starts = differing_words(starts, lists::STARTS, of_map, plus(n, 1));
+    let of_map = lists::part(lists, map::STARTS, n.wrapping_add(1));
+    let in_starts = differing_words(starts, lists::STARTS, of_map, n.wrapping_add(1));
     let of_map = lists::part(lists, map::HEADS, m);
     let in_heads = differing_words(heads, lists::HEADS, of_map, m);
     let of_map = lists::part(lists, map::COSTS, m);
@@ -82,11 +70,11 @@ pub fn differences(case: Case, lists: &Lists, file: &[u8]) -> u64 {
     let mut holds = [lists::HOLDS; 4104];
     let answer = reader::read(
         file,
-        lists::front(&mut starts, plus(case.nodes, 1)),
+        lists::front(&mut starts, case.nodes.wrapping_add(1)),
         lists::front(&mut heads, case.heads),
         lists::front(&mut costs, case.heads),
         lists::front(&mut holds, case.nodes),
     );
     let in_lists = differing_lists(case, lists, &starts, &heads, &costs, &holds);
-    words::sum(differing_answer(answer, case), in_lists)
+    words::sum(differing_numbers(answer, case), in_lists)
 }

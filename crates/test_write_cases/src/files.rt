@@ -1,13 +1,12 @@
 // The rows that have a file read and what it tells written: a planning file, and a road file with C, source and K of the row (document 02,
 // papers 1 and 5).
 use crate::printing::print_text;
-use dimacs::DimacsAnswer;
-use model::Node;
-use reader::PlanAnswer;
+use dimacs::RoadSize;
+use model::{Fault, Node};
+use reader::PlanHeader;
 use std::io;
 use test_rows::map::part;
 use test_rows::rows::Row;
-use writer::WriteAnswer;
 
 // What a file or a row tells beside the lists.
 #[derive(Clone, Copy)]
@@ -20,106 +19,105 @@ struct Told {
     room: u32,
 }
 
-fn write(
-    told: Told,
-    starts: &[u32],
-    heads: &[u32],
-    costs: &[u32],
-    holds: &[u32],
-    buffer: &mut [u8],
-) -> WriteAnswer {
+// The lists that a file is read into.
+#[derive(Drop)]
+struct Lists {
+    starts: [u32; 65],
+    heads: [u32; 128],
+    costs: [u32; 128],
+    holds: [u32; 64],
+}
+
+fn lists_with(holds: [u32; 64]) -> Lists {
+    Lists {
+        starts: [1000003; 65],
+        heads: [2000003; 128],
+        costs: [3000017; 128],
+        holds,
+    }
+}
+
+fn write(told: Told, lists: &Lists, buffer: &mut [u8]) -> Result<usize, Fault> {
     writer::write(
         told.nodes,
         told.ceiling,
         Node(told.source),
         told.segments,
-        part(starts, 0, std::num::wrapping_add_u32(told.nodes, 1)),
-        part(heads, 0, told.arcs),
-        part(costs, 0, told.arcs),
-        part(holds, 0, told.nodes),
+        part(&lists.starts, 0, told.nodes.wrapping_add(1)),
+        part(&lists.heads, 0, told.arcs),
+        part(&lists.costs, 0, told.arcs),
+        part(&lists.holds, 0, told.nodes),
         test_buffers::lent(buffer, told.room as usize),
     )
 }
 
 // What was read of a planning file, unless it was refused.
 fn write_plan(
-    read: PlanAnswer,
+    read: Result<PlanHeader, Fault>,
     room: u32,
-    starts: &[u32],
-    heads: &[u32],
-    costs: &[u32],
-    holds: &[u32],
+    lists: &Lists,
     buffer: &mut [u8],
-) -> WriteAnswer {
-    match read {
-        PlanAnswer::Read {
-            nodes,
-            arcs,
-            ceiling,
-            source,
-            segments,
-        } => {
-            let told = Told {
-                nodes,
-                arcs,
-                ceiling,
-                source: source.0,
-                segments,
-                room,
-            };
-            write(told, starts, heads, costs, holds, buffer)
-        }
-        PlanAnswer::Refused { number, place } => WriteAnswer::Refused { number, place },
-    }
+) -> Result<usize, Fault> {
+    let header = read?;
+    let told = Told {
+        nodes: header.nodes,
+        arcs: header.arcs,
+        ceiling: header.ceiling,
+        source: header.source.0,
+        segments: header.segments,
+        room,
+    };
+    write(told, lists, buffer)
 }
 
 // Row: again BYTES
 pub fn write_again(rt: &impl Print, row: Row, file: &[u8]) -> io::Result<()> {
-    let mut starts = [1000003u32; 65];
-    let mut heads = [2000003u32; 128];
-    let mut costs = [3000017u32; 128];
-    let mut holds = [8000009u32; 64];
+    let mut lists = lists_with([8000009; 64]);
     let mut buffer = [0u8; 1024];
     test_buffers::fill(&mut buffer);
-    let read = reader::read(file, &mut starts, &mut heads, &mut costs, &mut holds);
-    let answer = write_plan(read, row.n1, &starts, &heads, &costs, &holds, &mut buffer);
+    let read = reader::read(
+        file,
+        &mut lists.starts,
+        &mut lists.heads,
+        &mut lists.costs,
+        &mut lists.holds,
+    );
+    let answer = write_plan(read, row.n1, &lists, &mut buffer);
     print_text(rt, answer, &buffer)
 }
 
 // The same of a road file, with C, source, K and the bytes lent of the row.
 fn write_roads(
-    read: DimacsAnswer,
+    read: Result<RoadSize, Fault>,
     row: Row,
-    starts: &[u32],
-    heads: &[u32],
-    costs: &[u32],
+    lists: &Lists,
     buffer: &mut [u8],
-) -> WriteAnswer {
-    let holds = [0u32; 64];
-    match read {
-        DimacsAnswer::Read { nodes, arcs } => {
-            let told = Told {
-                nodes,
-                arcs,
-                ceiling: row.n1,
-                source: row.n2,
-                segments: row.n3,
-                room: row.n4,
-            };
-            write(told, starts, heads, costs, &holds, buffer)
-        }
-        DimacsAnswer::Refused { number, place } => WriteAnswer::Refused { number, place },
-    }
+) -> Result<usize, Fault> {
+    let size = read?;
+    let told = Told {
+        nodes: size.nodes,
+        arcs: size.arcs,
+        ceiling: row.n1,
+        source: row.n2,
+        segments: row.n3,
+        room: row.n4,
+    };
+    write(told, lists, buffer)
 }
 
 // Row: road C,SOURCE,K BYTES
+// A road file tells of no holds.
 pub fn write_road(rt: &impl Print, row: Row, file: &[u8]) -> io::Result<()> {
-    let mut starts = [1000003u32; 65];
-    let mut heads = [2000003u32; 128];
-    let mut costs = [3000017u32; 128];
+    let mut lists = lists_with([0; 64]);
     let mut buffer = [0u8; 1024];
     test_buffers::fill(&mut buffer);
-    let read = dimacs::read(file, row.n1, &mut starts, &mut heads, &mut costs);
-    let answer = write_roads(read, row, &starts, &heads, &costs, &mut buffer);
+    let read = dimacs::read(
+        file,
+        row.n1,
+        &mut lists.starts,
+        &mut lists.heads,
+        &mut lists.costs,
+    );
+    let answer = write_roads(read, row, &lists, &mut buffer);
     print_text(rt, answer, &buffer)
 }

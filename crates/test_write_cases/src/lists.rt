@@ -1,12 +1,11 @@
 // The rows that have the map's lists written.
 use crate::printing::{print_sums, print_text};
-use model::Node;
+use model::{Fault, Node};
 use std::io;
 use test_rows::map::{COSTS, HEADS, HOLDS, part};
 use test_rows::rows::Row;
-use writer::WriteAnswer;
 
-fn write(row: Row, map: &[u32], buffer: &mut [u8]) -> WriteAnswer {
+fn write(row: Row, map: &[u32], buffer: &mut [u8]) -> Result<usize, Fault> {
     test_buffers::fill(buffer);
     writer::write(
         row.n1,

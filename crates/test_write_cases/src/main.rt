@@ -40,15 +40,10 @@ fn act(
 fn act_all(rt: &impl Print, input: &[u8]) -> io::Result<()> {
     let mut map = [0u32; 143368];
     let mut file = [0u8; 1024];
-    let mut at = 0;
     let mut made = 0;
-    while at < input.len() {
-        let end = rows::line_end(input, at);
-        made = act(rt, &input[at..end], &mut map, &mut file, made)?;
-        if end == input.len() {
-            return Ok(());
-        }
-        at = end + 1;
+    for line in input.split_inclusive(|byte| *byte == b'\n') {
+        let row = line.strip_suffix(b"\n").unwrap_or(line);
+        made = act(rt, row, &mut map, &mut file, made)?;
     }
     Ok(())
 }

@@ -11,7 +11,9 @@ use Rattle.theory.specs.Search.{search}
 use Rattle.theory.specs.Examined.{examined, FirstOf}
 use Rattle.theory.specs.Shape.{Shape, one_level_buckets, two_level_buckets, one_level, two_level}
 use Rattle.theory.specs.Heap.{nothing, pick, heap}
-use Rattle.theory.specs.Runs.{Inputs, ValidInputs, Levels, one, two, Segmented, Allowed, heap_buckets, removal_looks, shape_of, steps_of}
+use Rattle.theory.specs.Runs.{Inputs, ValidInputs, Segmented, Allowed, heap_buckets, removal_looks, shape_of, steps_of}
+use Rattle.theory.specs.declared.Levels.{Levels}
+use Rattle.theory.specs.declared.Levels.TheVariants.{One, Two}
 use Rattle.theory.specs.Demands.{CheapestPaths, CheapestRoutes, CheapestCosts, Roster, operations, Demanded}
 use Rattle.theory.proofs.Search.Cheapest.{search_cheapest}
 use Rattle.theory.proofs.Search.Counts.{search_counted}
@@ -116,31 +118,31 @@ routes_costs c = record {
 
 -- The looks at segments of a removal, at the most.
 abbrev pub most_segment_looks : Levels → ℕ
-most_segment_looks one = 0
-most_segment_looks (two K) = K
+most_segment_looks One = 0
+most_segment_looks (Two K) = K
 
 module _ (n C : ℕ) (low : C ≤ 1048575) where
   pub lawful : (L : Levels) → Segmented L → Lawful (shape_of L n C) C (most_segment_looks L)
-  lawful one s = lawful_one n C low
-  lawful (two K) s = lawful_two n C K s low
+  lawful One s = lawful_one n C low
+  lawful (Two K) s = lawful_two n C K s low
 
 pub top_is : (L : Levels) (n C : ℕ) → (shape_of L n C).top ≡ n * C + 1
 unfolding one_level two_level
-top_is one n C = refl
-top_is (two K) n C = refl
+top_is One n C = refl
+top_is (Two K) n C = refl
 
 buckets_are : (L : Levels) (n C : ℕ) → (shape_of L n C).buckets ≡ heap_buckets L C
 unfolding one_level two_level
-buckets_are one n C = refl
-buckets_are (two K) n C = refl
+buckets_are One n C = refl
+buckets_are (Two K) n C = refl
 
 looks_are : (L : Levels) (C : ℕ) → heap_buckets L C + most_segment_looks L ≡ removal_looks L C
-looks_are one C = omega arith
-looks_are (two K) C = refl
+looks_are One C = omega arith
+looks_are (Two K) C = refl
 
 pub allowed_segmented : (L : Levels) → Allowed L → Segmented L
-allowed_segmented one a = tt
-allowed_segmented (two K) a = a.0
+allowed_segmented One a = tt
+allowed_segmented (Two K) a = a.0
 
 module _ {I : Inputs} (valid : ValidInputs I) (L : Levels) (s : Segmented L) where
   enough : I.map.nodes * I.ceiling ≤ (shape_of L I.map.nodes I.ceiling).top
@@ -167,19 +169,19 @@ pub heaps_agree : {I : Inputs} → ValidInputs I → (L L' : Levels) → Segment
 heaps_agree valid L L' s s' = run_search valid L s ∙ sym (run_search valid L' s')
 
 -- The one-level run, and the two-level run for every K of document 01.
-pub one_level_demanded : {I : Inputs} → ValidInputs I → Demanded I.map I.source (one_level_buckets I.ceiling) (one_level_buckets I.ceiling) (steps_of one I)
-one_level_demanded valid = run_demanded valid one tt
+pub one_level_demanded : {I : Inputs} → ValidInputs I → Demanded I.map I.source (one_level_buckets I.ceiling) (one_level_buckets I.ceiling) (steps_of One I)
+one_level_demanded valid = run_demanded valid One tt
 
 pub two_level_demanded : {I : Inputs} {K : ℕ} → ValidInputs I → 2 ≤ K
-    → Demanded I.map I.source (two_level_buckets I.ceiling K) (two_level_buckets I.ceiling K + K) (steps_of (two K) I)
-two_level_demanded {K = K} valid s = run_demanded valid (two K) s
+    → Demanded I.map I.source (two_level_buckets I.ceiling K) (two_level_buckets I.ceiling K + K) (steps_of (Two K) I)
+two_level_demanded {K = K} valid s = run_demanded valid (Two K) s
 
 -- The heap operations of both, in document 01's B and K: at most r (5 B - 4) + 3 m + 3 and r (5 B + K - 4) + 3 m + 3.
 module _ {I : Inputs} (valid : ValidInputs I) where
-  pub one_level_operations : operations (steps_of one I) + 4 * length (steps_of one I).search.roster
-      ≤ 5 * (length (steps_of one I).search.roster * one_level_buckets I.ceiling) + 3 * arcs I.map + 3
+  pub one_level_operations : operations (steps_of One I) + 4 * length (steps_of One I).search.roster
+      ≤ 5 * (length (steps_of One I).search.roster * one_level_buckets I.ceiling) + 3 * arcs I.map + 3
   one_level_operations = omega (arith, (one_level_demanded valid).counts.operated)
 
-  pub two_level_operations : {K : ℕ} → 2 ≤ K → operations (steps_of (two K) I) + 4 * length (steps_of (two K) I).search.roster
-      ≤ length (steps_of (two K) I).search.roster * (5 * two_level_buckets I.ceiling K + K) + 3 * arcs I.map + 3
+  pub two_level_operations : {K : ℕ} → 2 ≤ K → operations (steps_of (Two K) I) + 4 * length (steps_of (Two K) I).search.roster
+      ≤ length (steps_of (Two K) I).search.roster * (5 * two_level_buckets I.ceiling K + K) + 3 * arcs I.map + 3
   two_level_operations s = omega (arith, (two_level_demanded valid s).counts.operated)

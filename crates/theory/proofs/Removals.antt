@@ -8,7 +8,9 @@ use Rattle.theory.specs.Search.{Choice}
 use Rattle.theory.specs.Heap.{Heap, bound, Pick, nothing, picked, pick, heap_remove, heap_scan, heap_from, heap}
 use Rattle.theory.specs.Lawful.{Lawful}
 use Rattle.theory.specs.Invariants.{Least, Bounds, Fits, seg, seg_end, after, Resting}
-use Rattle.theory.specs.Runs.{Inputs, ValidInputs, Levels, one, two, Segmented, shape_of, steps_of}
+use Rattle.theory.specs.Runs.{Inputs, ValidInputs, Segmented, shape_of, steps_of}
+use Rattle.theory.specs.declared.Levels.{Levels}
+use Rattle.theory.specs.declared.Levels.TheVariants.{One, Two}
 use Rattle.theory.specs.Removals.{Between, first, next, RunRemoval, bounds_left}
 use Rattle.theory.proofs.Maps.Arcs.{map_admissible}
 use Rattle.theory.proofs.Heap.Bounds.{after_same}
@@ -94,27 +96,27 @@ module _ {L : Levels} {I : Inputs} (valid : ValidInputs I) (s : Segmented L) {h 
 
 module _ {I : Inputs} (valid : ValidInputs I) {h : Heap} {j k d v : ℕ} (far : 1 < j) where
   -- One level: u(1) = d, and u(i) = min(u(i - 1) + size(i), u(j)) for i = 2 to j - 1.
-  module _ (R : RunRemoval one I h j k d v) where
-    pub one_level_removal_first : bound (bounds_left one I h j k d v) 1 ≡ d
+  module _ (R : RunRemoval One I h j k d v) where
+    pub one_level_removal_first : bound (bounds_left One I h j k d v) 1 ≡ d
     one_level_removal_first =
         let m = made valid tt R in rw m.left (one_level_after_first I.map.nodes I.ceiling valid.low_ceiling m.bounds m.fit m.late far)
 
     pub one_level_removal_next : (i : ℕ) → 2 ≤ i → i < j
-        → bound (bounds_left one I h j k d v) i ≡ min (bound (bounds_left one I h j k d v) (i - 1) + 2 ^ (i - 2)) (bound h.bounds j)
+        → bound (bounds_left One I h j k d v) i ≡ min (bound (bounds_left One I h j k d v) (i - 1) + 2 ^ (i - 2)) (bound h.bounds j)
     one_level_removal_next i l b =
         let m = made valid tt R in rw m.left (one_level_after I.map.nodes I.ceiling valid.low_ceiling m.bounds m.fit m.late far i l b)
 
   -- Two levels, with t the upper end of the segment: u(1) = min(d - 1 + K, t), and u(i) = min(u(i - 1) + K^i, t) for 2 ≤ i < j.
-  module _ {K : ℕ} (segmented : 2 ≤ K) (R : RunRemoval (two K) I h j k d v) where
+  module _ {K : ℕ} (segmented : 2 ≤ K) (R : RunRemoval (Two K) I h j k d v) where
     abbrev t : ℕ
     t = seg_end (two_level I.map.nodes I.ceiling K) h.bounds j d
 
-    pub two_level_removal_first : bound (bounds_left (two K) I h j k d v) 1 ≡ min (d - 1 + K) t
+    pub two_level_removal_first : bound (bounds_left (Two K) I h j k d v) 1 ≡ min (d - 1 + K) t
     two_level_removal_first =
         let m = made valid segmented R in
         rw m.left (two_level_after_first I.map.nodes I.ceiling K segmented valid.low_ceiling m.bounds m.fit m.late far)
 
-    pub two_level_removal_next : (i : ℕ) → 2 ≤ i → i < j → bound (bounds_left (two K) I h j k d v) i ≡ min (bound (bounds_left (two K) I h j k d v) (i - 1) + K ^ i) t
+    pub two_level_removal_next : (i : ℕ) → 2 ≤ i → i < j → bound (bounds_left (Two K) I h j k d v) i ≡ min (bound (bounds_left (Two K) I h j k d v) (i - 1) + K ^ i) t
     two_level_removal_next i l b =
         let m = made valid segmented R in
         rw m.left (two_level_after I.map.nodes I.ceiling K segmented valid.low_ceiling m.bounds m.fit m.late far i l b)

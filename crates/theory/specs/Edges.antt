@@ -4,7 +4,9 @@
 use Rattle.std.specs.Prelude.{ℕ, List, [], ◌∷◌, length}
 use Rattle.theory.specs.Maps.{none, Map}
 use Rattle.theory.specs.Heap.{Heap, placements}
-use Rattle.theory.specs.Runs.{Levels, one, two, heap_buckets, steps_of}
+use Rattle.theory.specs.Runs.{heap_buckets, steps_of}
+use Rattle.theory.specs.declared.Levels.{Levels}
+use Rattle.theory.specs.declared.Levels.TheVariants.{One, Two}
 
 -- What is asked: B of a heap, or a run of it (document 01, "Edges, marked * where proved").
 pub data Question : Type 0 where
@@ -99,29 +101,29 @@ abbrev pub ◌gives◌ : Question → Answer → Row
 -- The marked rows first, then ours.
 unfoldable pub edges : List Row
 edges =
-    buckets_of one 0 gives buckets 2
-    ∷ buckets_of one 7 gives buckets 5
-    ∷ buckets_of one 8 gives buckets 6
-    ∷ buckets_of one 1048575 gives buckets 22
-    ∷ buckets_of (two 3) 8 gives buckets 3
-    ∷ buckets_of (two 3) 9 gives buckets 4
-    ∷ buckets_of (two 16) 1048575 gives buckets 6
-    ∷ buckets_of (two 64) 1048575 gives buckets 5
-    ∷ run_of one listing 9 0 gives run 4 2 6 7 9 27 (0 ∷ 6 ∷ 4 ∷ 6 ∷ none ∷ []) (none ∷ 5 ∷ 1 ∷ 2 ∷ none ∷ []) (0 ∷ 2 ∷ 3 ∷ 1 ∷ [])
-    ∷ run_of (two 3) listing 9 0 gives run 4 2 4 7 11 21 (0 ∷ 6 ∷ 4 ∷ 6 ∷ none ∷ []) (none ∷ 5 ∷ 1 ∷ 2 ∷ none ∷ []) (0 ∷ 2 ∷ 3 ∷ 1 ∷ [])
-    ∷ run_of one one_node 0 0 gives run 1 0 2 1 1 2 (0 ∷ []) (none ∷ []) (0 ∷ [])
-    ∷ run_of (two 2) one_node 0 0 gives run 1 0 2 1 2 2 (0 ∷ []) (none ∷ []) (0 ∷ [])
-    ∷ run_of one zero_pair 0 0 gives run 2 0 2 2 2 4 (0 ∷ 0 ∷ []) (none ∷ 0 ∷ []) (0 ∷ 1 ∷ [])
-    ∷ run_of (two 2) zero_pair 0 0 gives run 2 0 2 2 4 4 (0 ∷ 0 ∷ []) (none ∷ 0 ∷ []) (0 ∷ 1 ∷ [])
-    ∷ run_of one high_chain 4 0 gives run 3 0 5 3 10 10 (0 ∷ 4 ∷ 8 ∷ []) (none ∷ 0 ∷ 1 ∷ []) (0 ∷ 1 ∷ 2 ∷ [])
-    ∷ run_of (two 2) low_chain 1 0 gives run 3 0 2 3 8 6 (0 ∷ 1 ∷ 2 ∷ []) (none ∷ 0 ∷ 1 ∷ []) (0 ∷ 1 ∷ 2 ∷ [])
-    ∷ run_of (two 64) one_arc 1 0 gives run 2 0 2 2 125 4 (0 ∷ 1 ∷ []) (none ∷ 0 ∷ []) (0 ∷ 1 ∷ [])
-    ∷ run_of one held_listing 9 0 gives run 4 1 6 6 13 22 (0 ∷ 8 ∷ 4 ∷ 6 ∷ none ∷ []) (none ∷ 5 ∷ 1 ∷ 2 ∷ none ∷ []) (0 ∷ 2 ∷ 3 ∷ 1 ∷ [])
-    ∷ run_of (two 3) held_listing 9 0 gives run 4 1 4 5 13 18 (0 ∷ 8 ∷ 4 ∷ 6 ∷ none ∷ []) (none ∷ 5 ∷ 1 ∷ 2 ∷ none ∷ []) (0 ∷ 2 ∷ 3 ∷ 1 ∷ [])
-    ∷ run_of one held_source 9 0 gives run 3 0 6 3 6 16 (0 ∷ 0 ∷ 4 ∷ []) (none ∷ 0 ∷ 1 ∷ []) (0 ∷ 1 ∷ 2 ∷ [])
-    ∷ run_of (two 2) held_source 9 0 gives run 3 0 5 3 8 15 (0 ∷ 0 ∷ 4 ∷ []) (none ∷ 0 ∷ 1 ∷ []) (0 ∷ 1 ∷ 2 ∷ [])
-    ∷ run_of one zero_chain 0 0 gives run 3 0 2 3 3 6 (0 ∷ 0 ∷ 0 ∷ []) (none ∷ 1 ∷ 0 ∷ []) (0 ∷ 2 ∷ 1 ∷ [])
-    ∷ run_of (two 2) zero_chain 0 0 gives run 3 0 2 3 6 6 (0 ∷ 0 ∷ 0 ∷ []) (none ∷ 1 ∷ 0 ∷ []) (0 ∷ 2 ∷ 1 ∷ [])
-    ∷ run_of one ties 9 0 gives run 6 0 6 9 11 39 (0 ∷ 9 ∷ 9 ∷ 9 ∷ 8 ∷ 9 ∷ []) (none ∷ 3 ∷ 4 ∷ 2 ∷ 1 ∷ 0 ∷ []) (0 ∷ 4 ∷ 1 ∷ 3 ∷ 5 ∷ 2 ∷ [])
-    ∷ run_of (two 64) ties 9 0 gives run 6 0 2 6 104 12 (0 ∷ 9 ∷ 9 ∷ 9 ∷ 8 ∷ 9 ∷ []) (none ∷ 3 ∷ 4 ∷ 2 ∷ 1 ∷ 0 ∷ []) (0 ∷ 4 ∷ 1 ∷ 3 ∷ 5 ∷ 2 ∷ [])
+    buckets_of One 0 gives buckets 2
+    ∷ buckets_of One 7 gives buckets 5
+    ∷ buckets_of One 8 gives buckets 6
+    ∷ buckets_of One 1048575 gives buckets 22
+    ∷ buckets_of (Two 3) 8 gives buckets 3
+    ∷ buckets_of (Two 3) 9 gives buckets 4
+    ∷ buckets_of (Two 16) 1048575 gives buckets 6
+    ∷ buckets_of (Two 64) 1048575 gives buckets 5
+    ∷ run_of One listing 9 0 gives run 4 2 6 7 9 27 (0 ∷ 6 ∷ 4 ∷ 6 ∷ none ∷ []) (none ∷ 5 ∷ 1 ∷ 2 ∷ none ∷ []) (0 ∷ 2 ∷ 3 ∷ 1 ∷ [])
+    ∷ run_of (Two 3) listing 9 0 gives run 4 2 4 7 11 21 (0 ∷ 6 ∷ 4 ∷ 6 ∷ none ∷ []) (none ∷ 5 ∷ 1 ∷ 2 ∷ none ∷ []) (0 ∷ 2 ∷ 3 ∷ 1 ∷ [])
+    ∷ run_of One one_node 0 0 gives run 1 0 2 1 1 2 (0 ∷ []) (none ∷ []) (0 ∷ [])
+    ∷ run_of (Two 2) one_node 0 0 gives run 1 0 2 1 2 2 (0 ∷ []) (none ∷ []) (0 ∷ [])
+    ∷ run_of One zero_pair 0 0 gives run 2 0 2 2 2 4 (0 ∷ 0 ∷ []) (none ∷ 0 ∷ []) (0 ∷ 1 ∷ [])
+    ∷ run_of (Two 2) zero_pair 0 0 gives run 2 0 2 2 4 4 (0 ∷ 0 ∷ []) (none ∷ 0 ∷ []) (0 ∷ 1 ∷ [])
+    ∷ run_of One high_chain 4 0 gives run 3 0 5 3 10 10 (0 ∷ 4 ∷ 8 ∷ []) (none ∷ 0 ∷ 1 ∷ []) (0 ∷ 1 ∷ 2 ∷ [])
+    ∷ run_of (Two 2) low_chain 1 0 gives run 3 0 2 3 8 6 (0 ∷ 1 ∷ 2 ∷ []) (none ∷ 0 ∷ 1 ∷ []) (0 ∷ 1 ∷ 2 ∷ [])
+    ∷ run_of (Two 64) one_arc 1 0 gives run 2 0 2 2 125 4 (0 ∷ 1 ∷ []) (none ∷ 0 ∷ []) (0 ∷ 1 ∷ [])
+    ∷ run_of One held_listing 9 0 gives run 4 1 6 6 13 22 (0 ∷ 8 ∷ 4 ∷ 6 ∷ none ∷ []) (none ∷ 5 ∷ 1 ∷ 2 ∷ none ∷ []) (0 ∷ 2 ∷ 3 ∷ 1 ∷ [])
+    ∷ run_of (Two 3) held_listing 9 0 gives run 4 1 4 5 13 18 (0 ∷ 8 ∷ 4 ∷ 6 ∷ none ∷ []) (none ∷ 5 ∷ 1 ∷ 2 ∷ none ∷ []) (0 ∷ 2 ∷ 3 ∷ 1 ∷ [])
+    ∷ run_of One held_source 9 0 gives run 3 0 6 3 6 16 (0 ∷ 0 ∷ 4 ∷ []) (none ∷ 0 ∷ 1 ∷ []) (0 ∷ 1 ∷ 2 ∷ [])
+    ∷ run_of (Two 2) held_source 9 0 gives run 3 0 5 3 8 15 (0 ∷ 0 ∷ 4 ∷ []) (none ∷ 0 ∷ 1 ∷ []) (0 ∷ 1 ∷ 2 ∷ [])
+    ∷ run_of One zero_chain 0 0 gives run 3 0 2 3 3 6 (0 ∷ 0 ∷ 0 ∷ []) (none ∷ 1 ∷ 0 ∷ []) (0 ∷ 2 ∷ 1 ∷ [])
+    ∷ run_of (Two 2) zero_chain 0 0 gives run 3 0 2 3 6 6 (0 ∷ 0 ∷ 0 ∷ []) (none ∷ 1 ∷ 0 ∷ []) (0 ∷ 2 ∷ 1 ∷ [])
+    ∷ run_of One ties 9 0 gives run 6 0 6 9 11 39 (0 ∷ 9 ∷ 9 ∷ 9 ∷ 8 ∷ 9 ∷ []) (none ∷ 3 ∷ 4 ∷ 2 ∷ 1 ∷ 0 ∷ []) (0 ∷ 4 ∷ 1 ∷ 3 ∷ 5 ∷ 2 ∷ [])
+    ∷ run_of (Two 64) ties 9 0 gives run 6 0 2 6 104 12 (0 ∷ 9 ∷ 9 ∷ 9 ∷ 8 ∷ 9 ∷ []) (none ∷ 3 ∷ 4 ∷ 2 ∷ 1 ∷ 0 ∷ []) (0 ∷ 4 ∷ 1 ∷ 3 ∷ 5 ∷ 2 ∷ [])
     ∷ []

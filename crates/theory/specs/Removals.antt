@@ -3,7 +3,8 @@ use Rattle.std.specs.Prelude.{ℕ, ◌≡◌, List}
 use Rattle.theory.specs.Network.{Network, network}
 use Rattle.theory.specs.Shape.{Shape}
 use Rattle.theory.specs.Heap.{Heap, picked, pick, heap_remove, heap_scan, heap_start}
-use Rattle.theory.specs.Runs.{Inputs, Levels, shape_of}
+use Rattle.theory.specs.Runs.{Inputs, shape_of}
+use Rattle.theory.specs.declared.Levels.{Levels}
 
 -- The heaps of a run between two removals: the first, and each after one more removal and the arcs of the node removed (document 01,
 -- "The tallies").

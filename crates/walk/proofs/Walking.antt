@@ -10,14 +10,15 @@ use lib.Dec.{ltb, eqb}
 use lib.ListN.{length, get_or, set, drop, length-append}
 use lib.Seq.{drop-cons, set-append_seam, append_snoc}
 use borrow.Author.Tests.{lt-ltb, le-ltb, ltb-true, ltb-false, eqb-true, eq-eqb, ne_eqb}
+use Rattle.std.specs.Prelude.{Result, Ok, Err}
 use Rattle.theory.specs.Maps.{none, parent_of, LeavesBy, tail_of}
 use Rattle.theory.proofs.Cases.{differ}
 use Rattle.theory.proofs.Lists.{get_d_inside}
 use Rattle.theory.proofs.Maps.Arcs.{leaves_node}
 use Rattle.theory.proofs.Maps.Tails.{tail_is}
-use Rattle.walk.specs.declared.Walked.{Walked}
-use Rattle.walk.specs.declared.Walked.TheVariants.{Lost, NoRoom, Arrived}
-use Rattle.walk.specs.Walk.{leads_to, Walk, NoWalk, Nodes, extended, walk_back, Tailed, Walks, walked_of, walked_words, HasRoom, one_more_lem, written_behind_lem}
+use Rattle.walk.specs.declared.WalkError.{WalkError}
+use Rattle.walk.specs.declared.WalkError.TheVariants.{Lost, NoRoom}
+use Rattle.walk.specs.Walk.{leads_to, Walk, NoWalk, Nodes, extended, walk_back, Tailed, Walks, walked_of, walked_words}
 
 -- ---- the walk back, case by case
 
@@ -90,86 +91,106 @@ module _ {n source : ℕ} {starts heads parents : List ℕ} {v allowed behind : 
 
 -- At the source, with room for all.
 pub source_written : (words : List ℕ) (source behind : ℕ) → behind < length words
-    → (Arrived 1 ≡ walked_of (length words) behind (Nodes (source ∷ []))) × (set words 0 source ≡ walked_words behind (Nodes (source ∷ [])) words)
+    → (Ok 1 ≡ walked_of (length words) behind (Nodes (source ∷ []))) × (set words 0 source ≡ walked_words behind (Nodes (source ∷ [])) words)
 unfolding walked_of walked_words
 source_written [] source behind l = absurd (omega arith)
 source_written (word ∷ words) source behind l = let e = le-ltb (suc (length words)) (1 + behind) (omega arith) in (rw e refl, rw e refl)
 
 -- At the source, without.
 pub no_room : (words : List ℕ) (source behind : ℕ) → length words ≤ behind
-    → (NoRoom ≡ walked_of (length words) behind (Nodes (source ∷ []))) × (words ≡ walked_words behind (Nodes (source ∷ [])) words)
+    → (Err NoRoom ≡ walked_of (length words) behind (Nodes (source ∷ []))) × (words ≡ walked_words behind (Nodes (source ∷ [])) words)
 unfolding walked_of walked_words
 no_room words source behind l = let e = lt-ltb (length words) (1 + behind) (omega arith) in (rw e refl, rw e refl)
 
 -- No walk.
-pub lost_walk : (words : List ℕ) (behind : ℕ) {walk : Walk} → walk ≡ NoWalk → (Lost ≡ walked_of (length words) behind walk) × (words ≡ walked_words behind walk words)
+pub lost_walk : (words : List ℕ) (behind : ℕ) {walk : Walk} → walk ≡ NoWalk → (Err Lost ≡ walked_of (length words) behind walk) × (words ≡ walked_words behind walk words)
 unfolding walked_of walked_words
 lost_walk words behind e = (rw e refl, rw e refl)
 
--- Where the walk comes back to node v, there is a word for v behind those that are written.
-pub has_room : (walk : Walk) (words : List ℕ) (behind : ℕ) → HasRoom (walked_words (behind + 1) walk words) (walked_of (length words) (behind + 1) walk)
+-- Where the walk comes back to node v without its nodes, none is written with v.
+lost_behind : (walk : Walk) (words : List ℕ) (behind v : ℕ) {error : WalkError} → Err error ≡ walked_of (length words) (behind + 1) walk
+    → (Err error ≡ walked_of (length words) behind (extended walk v)) × (walked_words (behind + 1) walk words ≡ walked_words behind (extended walk v) words)
 unfolding walked_of walked_words
-has_room NoWalk words behind = tt
-has_room (Nodes nodes) words behind = go (ltb (length words) (length nodes + (behind + 1))) refl
+lost_behind NoWalk words behind v e = (e, refl)
+lost_behind (Nodes nodes) words behind v {error} e =
+    let more : length (nodes ++ (v ∷ [])) ≡ length nodes + 1 = length-append nodes (v ∷ []) in
+    let next : length nodes + 1 + behind ≡ length nodes + (behind + 1) = omega arith in
+    rw (more, next) (go (ltb (length words) (length nodes + (behind + 1))) e)
   where
-    go : (t : Bool) → ltb (length words) (length nodes + (behind + 1)) ≡ t
-        → HasRoom (cond t words (nodes ++ drop (length nodes) words)) (cond t NoRoom (Arrived (length nodes)))
-    go true e = tt
-    go false e =
-        let l = ltb-false (length words) (length nodes + (behind + 1)) e in
-        rw (drop-cons words (length nodes) 0 (omega (arith, l)), length-append nodes (get_or words (length nodes) 0 ∷ drop (suc (length nodes)) words)) (omega arith)
+    go : (t : Bool) → Err error ≡ cond t (Err NoRoom) (Ok (length nodes))
+        → (Err error ≡ cond t (Err NoRoom) (Ok (length nodes + 1)))
+        × (cond t words (nodes ++ drop (length nodes) words) ≡ cond t words ((nodes ++ (v ∷ [])) ++ drop (length nodes + 1) words))
+    go true e = (e, refl)
+    go false e = differ (cc)
 
--- Node v written behind those nodes.
-pub behind_written : (walk : Walk) (words : List ℕ) (behind v : ℕ)
-    → (one_more_lem (walked_of (length words) (behind + 1) walk) ≡ walked_of (length words) behind (extended walk v))
-    × (written_behind_lem (walked_of (length words) (behind + 1) walk) v (walked_words (behind + 1) walk words) ≡ walked_words behind (extended walk v) words)
+-- Where it comes back with them, there is a word for v behind those that are written, and v is written there.
+pub record Behind (walk : Walk) (words : List ℕ) (behind v nodes : ℕ) : Type 0 where
+  pub room : nodes < length (walked_words (behind + 1) walk words)
+  pub answer : Ok (nodes + 1) ≡ walked_of (length words) behind (extended walk v)
+  pub list : set (walked_words (behind + 1) walk words) nodes v ≡ walked_words behind (extended walk v) words
+
+behind_written : (walk : Walk) (words : List ℕ) (behind v : ℕ) {nodes : ℕ} → Ok nodes ≡ walked_of (length words) (behind + 1) walk → Behind walk words behind v nodes
 unfolding walked_of walked_words
-behind_written NoWalk words behind v = (refl, refl)
-behind_written (Nodes nodes) words behind v =
-    let e : length (nodes ++ (v ∷ [])) ≡ length nodes + 1 = length-append nodes (v ∷ []) in
-    let f : length nodes + 1 + behind ≡ length nodes + (behind + 1) = omega arith in
-    rw (e, f) (go (ltb (length words) (length nodes + (behind + 1))) refl)
+behind_written NoWalk words behind v e = differ (cc)
+behind_written (Nodes route) words behind v {nodes} e = go (ltb (length words) (length route + (behind + 1))) refl e
   where
-    go : (t : Bool) → ltb (length words) (length nodes + (behind + 1)) ≡ t
-        → (one_more_lem (cond t NoRoom (Arrived (length nodes))) ≡ cond t NoRoom (Arrived (length nodes + 1)))
-        × (written_behind_lem (cond t NoRoom (Arrived (length nodes))) v (cond t words (nodes ++ drop (length nodes) words))
-        ≡ cond t words ((nodes ++ (v ∷ [])) ++ drop (length nodes + 1) words))
-    go true e = (refl, refl)
-    go false e =
-        let l = ltb-false (length words) (length nodes + (behind + 1)) e in (
-          refl,
-          ap (λ (k : List ℕ). set (nodes ++ k) (length nodes) v) (drop-cons words (length nodes) 0 (omega (arith, l)))
-              ∙ set-append_seam nodes (get_or words (length nodes) 0) (drop (suc (length nodes)) words) v
-              ∙ sym (append_snoc nodes v (drop (suc (length nodes)) words))
-              ∙ ap (λ (k : ℕ). (nodes ++ (v ∷ [])) ++ drop k words) (sym (add-one (length nodes))),
-        )
+    more : length (route ++ (v ∷ [])) ≡ length route + 1
+    more = length-append route (v ∷ [])
 
--- The walk comes back to node v.
-pub came_back : (walk : Walk) (words : List ℕ) (behind : ℕ) {r : Walked} {l : List ℕ} → r ≡ walked_of (length words) (behind + 1) walk
-    → l ≡ walked_words (behind + 1) walk words → HasRoom l r
-came_back walk words behind e f = rw (e, f) (has_room walk words behind)
+    next : length route + 1 + behind ≡ length route + (behind + 1)
+    next = omega arith
+
+    go : (t : Bool) → ltb (length words) (length route + (behind + 1)) ≡ t → Ok nodes ≡ cond t (Err NoRoom) (Ok (length route))
+        → Behind (Nodes route) words behind v nodes
+    go true l e = differ (cc)
+    go false l e =
+        let all : nodes ≡ length route = cc in
+        let fits = ltb-false (length words) (length route + (behind + 1)) l in
+        let front : drop (length route) words ≡ get_or words (length route) 0 ∷ drop (suc (length route)) words = drop-cons words (length route) 0 (omega (arith, fits)) in
+        record {
+          room = rw (l, all, front, length-append route (get_or words (length route) 0 ∷ drop (suc (length route)) words)) (omega arith);
+          answer = rw (more, next, l, all) refl;
+          list =
+              rw (more, next, l, all)
+              (ap (λ (k : List ℕ). set (route ++ k) (length route) v) front
+              ∙ set-append_seam route (get_or words (length route) 0) (drop (suc (length route)) words) v
+              ∙ sym (append_snoc route v (drop (suc (length route)) words))
+              ∙ ap (λ (k : ℕ). (route ++ (v ∷ [])) ++ drop k words) (sym (add-one (length route))));
+        }
 
 module _ {n source : ℕ} {starts heads parents : List ℕ} {v allowed behind : ℕ} (W : Walks n source starts heads parents v allowed behind) where
   abbrev whole_walk : Walk
   whole_walk = walk_back n starts heads parents source allowed v
 
-  goes_on : (tail : ℕ) → v ≢ source → leads_to heads (get_or parents v 0) v ≡ true → LeavesBy starts (get_or parents v 0) tail → 0 < allowed
-      → whole_walk ≡ extended (walk_back n starts heads parents source (allowed - 1) tail) v
-  goes_on tail q fits h l =
-      let a : allowed ≡ suc (allowed - 1) = omega arith in
-      let t = tail_is W.table.sound (get_or parents v 0) tail h in
-      ap (λ (k : ℕ). walk_back n starts heads parents source k v) a
-      ∙ back_on n source starts heads parents (allowed - 1) v q (rw (sym (parent_read W)) fits)
-      ∙ ap (λ (k : ℕ). extended (walk_back n starts heads parents source (allowed - 1) k) v) (ap (tail_of n starts) (sym (parent_read W)) ∙ t)
+  -- The parent of v leads on to `tail`.
+  pub record GoesOn (tail : ℕ) : Type 0 where
+    pub away : v ≢ source
+    pub fits : leads_to heads (get_or parents v 0) v ≡ true
+    pub leaves : LeavesBy starts (get_or parents v 0) tail
+    pub some : 0 < allowed
 
-  pub walked_on : (tail : ℕ) → v ≢ source → leads_to heads (get_or parents v 0) v ≡ true → LeavesBy starts (get_or parents v 0) tail → 0 < allowed
-      → (words : List ℕ) {r r' : Walked} {l l' : List ℕ}
-      → (r ≡ walked_of (length words) (behind + 1) (walk_back n starts heads parents source (allowed - 1) tail))
-      × (l ≡ walked_words (behind + 1) (walk_back n starts heads parents source (allowed - 1) tail) words)
-      → (r' ≡ one_more_lem r) × (l' ≡ written_behind_lem r v l)
-      → (r' ≡ walked_of (length words) behind whole_walk) × (l' ≡ walked_words behind whole_walk words)
-  walked_on tail q fits h some words inner outer =
-      let w = walk_back n starts heads parents source (allowed - 1) tail in
-      let b = behind_written w words behind v in
-      let g = goes_on tail q fits h some in
-      rw g (outer.0 ∙ rw inner.0 b.0, outer.1 ∙ rw (inner.0, inner.1) b.1)
+  module _ {tail : ℕ} (G : GoesOn tail) where
+    abbrev inner : Walk
+    inner = walk_back n starts heads parents source (allowed - 1) tail
+
+    goes_on : whole_walk ≡ extended inner v
+    goes_on =
+        let a : allowed ≡ suc (allowed - 1) = omega (arith, G.some) in
+        let t = tail_is W.table.sound (get_or parents v 0) tail G.leaves in
+        ap (λ (k : ℕ). walk_back n starts heads parents source k v) a
+        ∙ back_on n source starts heads parents (allowed - 1) v G.away (rw (sym (parent_read W)) G.fits)
+        ∙ ap (λ (k : ℕ). extended (walk_back n starts heads parents source (allowed - 1) k) v) (ap (tail_of n starts) (sym (parent_read W)) ∙ t)
+
+    pub came_back_lost : (words : List ℕ) {r : Result ℕ WalkError} {l : List ℕ} {error : WalkError} → r ≡ walked_of (length words) (behind + 1) inner
+        → l ≡ walked_words (behind + 1) inner words → r ≡ Err error
+        → (Err error ≡ walked_of (length words) behind whole_walk) × (l ≡ walked_words behind whole_walk words)
+    came_back_lost words e f is =
+        let b = lost_behind inner words behind v (sym is ∙ e) in
+        rw goes_on (b.0, f ∙ b.1)
+
+    pub came_back : (words : List ℕ) {r : Result ℕ WalkError} {l : List ℕ} {nodes : ℕ} → r ≡ walked_of (length words) (behind + 1) inner
+        → l ≡ walked_words (behind + 1) inner words → r ≡ Ok nodes
+        → (nodes < length l) × (Ok (nodes + 1) ≡ walked_of (length words) behind whole_walk) × (set l nodes v ≡ walked_words behind whole_walk words)
+    came_back words e f is =
+        let b = behind_written inner words behind v (sym is ∙ e) in
+        rw (goes_on, f) (b.room, b.answer, b.list)

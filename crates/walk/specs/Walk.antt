@@ -1,10 +1,9 @@
 -- The walk from a node back to the source, found from the last arc back by a parent table (document 01, "Routes").
-use Rattle.std.specs.Prelude.{ℕ, zero, suc, ◌+◌, ◌≤◌, ◌<◌, Bool, cond, ◌&&◌, ◌≡◌, List, [], ◌∷◌, ◌++◌, ltb, eqb, length, get_or, set, replicate}
-use Rattle.model.specs.declared.Check.TheVariants.{Passed}
+use Rattle.std.specs.Prelude.{ℕ, zero, suc, ◌+◌, ◌≤◌, ◌<◌, Bool, cond, ◌&&◌, ◌≡◌, List, [], ◌∷◌, ◌++◌, Result, Ok, Err, ltb, eqb, length, get_or, replicate}
 use Rattle.model.specs.Answers.{words_after}
 use Rattle.theory.specs.Maps.{Map, map_of, head_of, parent_of, tail_of, Sound}
-use Rattle.walk.specs.declared.Walked.{Walked}
-use Rattle.walk.specs.declared.Walked.TheVariants.{Lost, NoRoom, Arrived}
+use Rattle.walk.specs.declared.WalkError.{WalkError}
+use Rattle.walk.specs.declared.WalkError.TheVariants.{Lost, NoRoom}
 
 -- ---- the walk back
 
@@ -66,29 +65,11 @@ pub record Walks (n source : ℕ) (starts heads parents : List ℕ) (v allowed b
 
 -- Whether the walk arrives with `behind` nodes to follow it, and whether the list has room for all (document 01, "What a call returns",
 -- numbers 16 and 17).
-unfoldable pub walked_of : (room behind : ℕ) → Walk → Walked
-walked_of room behind NoWalk = Lost
-walked_of room behind (Nodes nodes) = cond (ltb room (length nodes + behind)) NoRoom (Arrived (length nodes))
+unfoldable pub walked_of : (room behind : ℕ) → Walk → Result ℕ WalkError
+walked_of room behind NoWalk = Err Lost
+walked_of room behind (Nodes nodes) = cond (ltb room (length nodes + behind)) (Err NoRoom) (Ok (length nodes))
 
 -- The route list behind the walk: the nodes from the source on, if there is room for all (document 01, "Routes").
 unfoldable pub walked_words : (behind : ℕ) → Walk → (words : List ℕ) → List ℕ
 walked_words behind NoWalk words = words
-walked_words behind (Nodes nodes) words = cond (ltb (length words) (length nodes + behind)) words (words_after Passed nodes words)
-
--- The list has a word behind those that the walk has written (document 01, "Routes").
-abbrev pub HasRoom : (words : List ℕ) → Walked → Type 0
-HasRoom words (Arrived nodes) = nodes < length words
-HasRoom words Lost = Unit {0}
-HasRoom words NoRoom = Unit {0}
-
--- The walk with one node more (document 01, "Routes").
-abbrev pub one_more_lem : Walked → Walked
-one_more_lem (Arrived nodes) = Arrived (nodes + 1)
-one_more_lem Lost = Lost
-one_more_lem NoRoom = NoRoom
-
--- The list with node v behind those that the walk has written (document 01, "Routes").
-abbrev pub written_behind_lem : Walked → (v : ℕ) → (words : List ℕ) → List ℕ
-written_behind_lem (Arrived nodes) v words = set words nodes v
-written_behind_lem Lost v words = words
-written_behind_lem NoRoom v words = words
+walked_words behind (Nodes nodes) words = cond (ltb (length words) (length nodes + behind)) words (words_after (Ok tt) nodes words)

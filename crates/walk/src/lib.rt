@@ -3,17 +3,15 @@
 
 ghost use Rattle.std.specs.Prelude.{◌≡◌, [], ◌∷◌, length};
 ghost use Rattle.theory.specs.Maps.{LeavesBy};
-ghost use Rattle.walk.specs.Walk.{leads_to, Nodes, walk_back};
-ghost use Rattle.walk.specs.Walk.{Tailed, Walks, walked_of, walked_words, HasRoom, one_more_lem, written_behind_lem};
+ghost use Rattle.walk.specs.Walk.{leads_to, Nodes, walk_back, Tailed, Walks, walked_of, walked_words};
 
 use model::{Arc, Node};
 
-// How a walk back to the source ends: so many nodes are written, or none.
-#[derive(Clone, Copy)]
-pub enum Walked {
+// Why no node of a walk back to the source is written.
+#[derive(Clone, Copy, Debug, PartialEq, Eq)]
+pub enum WalkError {
     Lost,
     NoRoom,
-    Arrived { nodes: usize },
 }
 
 // The node that an arc leaves, found by halving the nodes of which it may be one.
@@ -38,45 +36,24 @@ fn tail_of(n: usize, starts: &[u32], arc: Arc) -> Node
 fn leads_to(heads: &[u32], arc: Arc, v: Node) -> bool
     ensures { result ≡ leads_to heads.now arc.0 v.0 }
 {
-    let at = arc.0 as usize;
-    if at < heads.len() {
-        heads[at] == v.0
-    } else {
-        false
-    }
+    heads.get(arc.0 as usize) == Some(&v.0)
 }
 
 // The walk has come to the source, with `behind` nodes to follow it: now the number of nodes is known, and the first word is written
 // only if there is room for all.
-fn arrive(route: &mut [u32], source: Node, behind: usize) -> Walked
+fn arrive(route: &mut [u32], source: Node, behind: usize) -> Result<usize, WalkError>
     ensures answer { result ≡ walked_of (length route.old) behind (Nodes (source.0 ∷ [])) }
     ensures list { route.new ≡ walked_words behind (Nodes (source.0 ∷ [])) route.old }
 {
     if behind < route.len() {
         route[0] = source.0;
-        return Walked::Arrived { nodes: 1 };
+        return Ok(1);
     }
-    Walked::NoRoom
-}
-
-// Node v is written behind the nodes that the walk has written.
-fn write_behind(route: &mut [u32], walked: Walked, v: Node) -> Walked
-    requires { HasRoom route.old walked }
-    ensures answer { result ≡ one_more_lem walked }
-    ensures list { route.new ≡ written_behind_lem walked v.0 route.old }
-{
-    match walked {
-        Walked::Arrived { nodes } => {
-            route[nodes] = v.0;
-            Walked::Arrived { nodes: nodes + 1 }
-        }
-        Walked::NoRoom => Walked::NoRoom,
-        Walked::Lost => Walked::Lost,
-    }
+    Err(WalkError::NoRoom)
 }
 
 // The walk from node v back to the source: `allowed` arcs may still be taken, and `behind` nodes follow v. The nodes are written on
-// return, from the source on.
+// return, from the source on, and their number is given back.
 pub fn walk(
     n: usize,
     source: Node,
@@ -87,7 +64,7 @@ pub fn walk(
     v: Node,
     allowed: usize,
     behind: usize,
-) -> Walked
+) -> Result<usize, WalkError>
     requires { Walks n source.0 starts.now heads.now parents.now v.0 allowed behind }
     ensures answer { result ≡ walked_of (length route.old) behind
         (walk_back n starts.now heads.now parents.now source.0 allowed v.0) }
@@ -98,14 +75,14 @@ pub fn walk(
         return arrive(route, source, behind);
     }
     if allowed == 0 {
-        return Walked::Lost;
+        return Err(WalkError::Lost);
     }
     let parent = Arc(parents[v.0 as usize]);
     if !leads_to(heads, parent, v) {
-        return Walked::Lost;
+        return Err(WalkError::Lost);
     }
     let tail = tail_of(n, starts, parent);
-    let walked = walk(
+    let nodes = walk(
         n,
         source,
         starts,
@@ -115,6 +92,7 @@ pub fn walk(
         tail,
         allowed - 1,
         behind + 1,
-    );
-    write_behind(route, walked, v)
+    )?;
+    route[nodes] = v.0;
+    Ok(nodes + 1)
 }

@@ -1,8 +1,7 @@
 -- Maps with the planning files that are written for them, and refusals: a table of our own for the rules of document 02, paper 5.
-use Rattle.std.specs.Prelude.{ℕ, List, [], ◌∷◌}
+use Rattle.std.specs.Prelude.{ℕ, List, [], ◌∷◌, Ok, Err}
 use Prim.Native.String.{String}
-use Rattle.model.specs.declared.Check.{Check}
-use Rattle.model.specs.declared.Check.TheVariants.{Passed, Fault}
+use Rattle.model.specs.Answers.{Check, number_of}
 use Rattle.theory.specs.Runs.{Inputs, inputs}
 use Rattle.checks.specs.Checks.{first_fault}
 use Rattle.fields.specs.Texts.{bytes_of}
@@ -28,8 +27,8 @@ abbrev pub ◌with-K◌lent◌gives◌ : Inputs → (K room : ℕ) → FileTold 
 
 -- What the definitions tell of a map whose checks come to `check` (document 02, paper 5).
 abbrev pub file_told : Check → List ℕ → FileTold
-file_told Passed bytes = file bytes
-file_told (Fault number place) bytes = refused number place
+file_told (Ok tt) bytes = file bytes
+file_told (Err fault) bytes = refused (number_of fault.kind) fault.place
 
 -- What the definitions give for a row (document 02, paper 5).
 unfoldable pub given_for_writing : WriteRow → FileTold

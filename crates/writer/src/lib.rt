@@ -8,24 +8,15 @@ ghost use Rattle.plan_text.specs.Files.{plan_file};
 ghost use Rattle.plan_writing.specs.Texts.{TextLines, text_of};
 ghost use Rattle.writer.specs.Promise.{Writable, TextAnswered, WritePromised};
 
-use model::{Check, Node};
-
-// The length of the file, or a refusal's number and place.
-#[derive(Clone, Copy)]
-pub enum WriteAnswer {
-    Written { length: usize },
-    Refused { number: u32, place: usize },
-}
+use model::{Fault, Node};
 
 fn all_zero(holds: &[u32]) -> bool
     ensures { result ≡ all_zero holds.now }
 {
-    let mut v = 0;
-    while v < holds.len() {
-        if holds[v] != 0 {
+    for hold in holds {
+        if *hold != 0 {
             return false;
         }
-        v += 1;
     }
     true
 }
@@ -39,18 +30,15 @@ fn write_text(
     costs: &[u32],
     told: &[u32],
     bytes: &mut [u8],
-) -> WriteAnswer
+) -> Result<usize, Fault>
     requires { TextLines first.now n starts.now heads.now costs.now told.now }
     ensures { TextAnswered (text_of first.now n starts.now heads.now costs.now told.now)
         bytes.old bytes.new result }
 {
     let length = plan_writing::text_length(first, n, starts, heads, costs, told);
-    let room = check_numbers::lent_check(0, bytes.len(), length);
-    if let Check::Fault { number, place } = room {
-        return WriteAnswer::Refused { number, place };
-    }
+    check_numbers::lent_check(0, bytes.len(), length)?;
     plan_writing::put_text(bytes, first, n, starts, heads, costs, told);
-    WriteAnswer::Written { length }
+    Ok(length)
 }
 
 // Six fields and the lines of the holds, unless all holds are 0.
@@ -64,7 +52,7 @@ fn write_map(
     costs: &[u32],
     holds: &[u32],
     bytes: &mut [u8],
-) -> WriteAnswer
+) -> Result<usize, Fault>
     requires { Writable (inputs n ceiling source.0 starts.now heads.now costs.now holds.now) segments }
     ensures { TextAnswered (plan_file (inputs n ceiling source.0 starts.now heads.now costs.now holds.now) segments)
         bytes.old bytes.new result }
@@ -87,15 +75,12 @@ pub fn write(
     costs: &[u32],
     holds: &[u32],
     bytes: &mut [u8],
-) -> WriteAnswer
+) -> Result<usize, Fault>
     ensures { WritePromised (inputs n ceiling source.0 starts.now heads.now costs.now holds.now) segments
         bytes.old bytes.new result }
 {
-    let map = checks::map_check(n, ceiling, source, starts, heads, costs, holds);
-    let found = checks::first_of(map, check_numbers::segments_check(segments));
-    if let Check::Fault { number, place } = found {
-        return WriteAnswer::Refused { number, place };
-    }
+    checks::map_check(n, ceiling, source, starts, heads, costs, holds)?;
+    check_numbers::segments_check(segments)?;
     write_map(
         n, ceiling, source, segments, starts, heads, costs, holds, bytes,
     )

@@ -1,22 +1,12 @@
 -- `buckets::is_empty` meets its contract: the count word tells, or the head word of the bucket's one slot.
 use mathlib.Core.Path.{◌≡◌}
-use Prim.Native.Nat.{◌-◌, ◌<◌}
+use Prim.Native.Nat.{◌<◌}
 use native.Mathlib.Omega.{arith}
 use lib.ListN.{length}
 use Rattle.buckets.specs.Words.{count_at}
 use Rattle.buckets.specs.Words.Laws.{count_low}
-use Rattle.buckets.specs.Links.Walk.{only_low, empty_count, empty_head}
+use Rattle.buckets.specs.Links.Walk.{empty_count, empty_head}
 use Rattle.buckets.proofs.is_empty.Goals as goal
-
-pub overflow_add-result-then-segments-gt1-2 : goal.overflow_add-result-then-segments-gt1-2
-overflow_add-result-then-segments-gt1-2 c =
-    let low : count_at c.args.n c.args.slots c.args.bucket < length c.args.words.now = count_low c.requires.linked.fits c.args.bucket c.requires.bucket_nonzero.1 c.if-segments-gt1.true in
-    omega (arith, low)
-
-pub offset_bounds-words-n : goal.offset_bounds-words-n
-offset_bounds-words-n c =
-    let low : count_at c.args.n c.args.slots c.args.bucket < length c.args.words.now = count_low c.requires.linked.fits c.args.bucket c.requires.bucket_nonzero.1 c.if-segments-gt1.true in
-    omega (arith, low)
 
 pub bounds-words-n : goal.bounds-words-n
 bounds-words-n c =
@@ -25,24 +15,6 @@ bounds-words-n c =
 
 pub returns-then-segments-gt1 : goal.returns-then-segments-gt1
 returns-then-segments-gt1 c = empty_count c.requires.linked c.args.bucket c.requires.bucket_nonzero.0 c.requires.bucket_nonzero.1 _ (omega arith) c.if-segments-gt1.true
-
-pub overflow_add-result-3 : goal.overflow_add-result-3
-overflow_add-result-3 c =
-    let one : c.args.segments ≡ 1 = omega (arith, c.requires.linked.fits.whole) in
-    let only : c.args.bucket - 1 < c.args.slots = only_low c.requires.linked c.args.bucket c.requires.bucket_nonzero.0 c.requires.bucket_nonzero.1 (one) in
-    omega (arith, only)
-
-pub offset_bounds-words-n-2 : goal.offset_bounds-words-n-2
-offset_bounds-words-n-2 c =
-    let one : c.args.segments ≡ 1 = omega (arith, c.requires.linked.fits.whole) in
-    let only : c.args.bucket - 1 < c.args.slots = only_low c.requires.linked c.args.bucket c.requires.bucket_nonzero.0 c.requires.bucket_nonzero.1 (one) in
-    omega (arith, only)
-
-pub bounds-words-n-2 : goal.bounds-words-n-2
-bounds-words-n-2 c =
-    let one : c.args.segments ≡ 1 = omega (arith, c.requires.linked.fits.whole) in
-    let only : c.args.bucket - 1 < c.args.slots = only_low c.requires.linked c.args.bucket c.requires.bucket_nonzero.0 c.requires.bucket_nonzero.1 (one) in
-    omega (arith, only)
 
 pub returns : goal.returns
 returns c =

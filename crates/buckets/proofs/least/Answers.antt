@@ -5,20 +5,10 @@ use lib.ListN.{get_or}
 use Rattle.buckets.specs.Links.Walk.{head_le, walk_nonempty, walk_start, walk_below, walk_next, walk_end}
 use Rattle.buckets.proofs.least.Goals as goal
 
-pub overflow_cast-first : goal.overflow_cast-first
-overflow_cast-first c =
-    let first-le : get_or c.args.words.now (4 * c.args.n + 32 + c.args.slot) 0 ≤ c.args.n = head_le c.requires.linked c.args.slot c.requires.slot_lt_slots.0 in
-    omega (arith, first-le)
-
 pub overflow_sub-best : goal.overflow_sub-best
 overflow_sub-best c =
     let first_some : 0 < get_or c.args.words.now (4 * c.args.n + 32 + c.args.slot) 0 = walk_nonempty c.requires.linked c.args.slot c.requires.slot_lt_slots.0 c.args.keys.now c.requires.some in
     first_some
-
-pub offset_bounds-words-best : goal.offset_bounds-words-best
-offset_bounds-words-best c =
-    let first-le : get_or c.args.words.now (4 * c.args.n + 32 + c.args.slot) 0 ≤ c.args.n = head_le c.requires.linked c.args.slot c.requires.slot_lt_slots.0 in
-    omega (arith, first-le)
 
 pub bounds-words-best : goal.bounds-words-best
 bounds-words-best c =
@@ -29,14 +19,8 @@ bounds-words-best c =
 pub loop-at-init : goal.loop-at-init
 loop-at-init c = walk_start c.requires.linked c.args.slot c.requires.slot_lt_slots.0 c.args.keys.now c.requires.some
 
-pub overflow_cast-u : goal.overflow_cast-u
-overflow_cast-u c = omega (arith, walk_below c.loop-at.invariant)
-
 pub earlier-best-requires : goal.earlier-best-requires
 earlier-best-requires c = omega (arith, walk_below c.loop-at.invariant, c.loop-at.invariant.in_slot.0)
-
-pub offset_bounds-words-u : goal.offset_bounds-words-u
-offset_bounds-words-u c = omega (arith, walk_below c.loop-at.invariant)
 
 pub bounds-words-u : goal.bounds-words-u
 bounds-words-u c = omega (arith, walk_below c.loop-at.invariant)
@@ -49,6 +33,3 @@ loop-at-preserved c = (walk_next c.loop-at.invariant c.loop-at-test.true c.earli
 
 pub returns : goal.returns
 returns c = walk_end c.loop-at.invariant c.loop-at-test.false
-
-pub overflow_cast-result : goal.overflow_cast-result
-overflow_cast-result c = omega (arith, c.loop-at.invariant.in_slot.0)

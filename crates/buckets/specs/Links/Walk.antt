@@ -5,7 +5,7 @@ use Rattle.std.proofs.Common.{sym, ap, ◌∙◌, subst, inl, inr, ⊎_elim, ari
 use Rattle.std.proofs.Math.Nat.{suc_inj}
 use Rattle.std.proofs.Math.Decide.{dec_lt}
 use Rattle.std.proofs.lemmas.Bool.{eqb-false}
-use Rattle.buckets.specs.Answer.{InSlot, InBucket, Some, None, EmptyBucket, Before, Earlier, LeastIn}
+use Rattle.buckets.specs.Answer.{InSlot, InBucket, SomeNode, NoNode, EmptyBucket, Before, Earlier, LeastIn}
 use Rattle.buckets.specs.Lists.{ListedIn, Once}
 use Rattle.buckets.specs.Lists.Without.{few}
 use Rattle.buckets.specs.Tally.{tally}
@@ -23,7 +23,7 @@ module _ {n slots segments : ℕ} {words : List ℕ} (L : Linked n slots segment
   pub head_le : get_or words (heads n + s) 0 ≤ n
   head_le = chain.head_le L.chains s hs
 
-  pub first_none : get_or words (heads n + s) 0 ≡ 0 → None (InSlot n segments s words)
+  pub first_none : get_or words (heads n + s) 0 ≡ 0 → NoNode (InSlot n segments s words)
   first_none e x p =
       go (L.chains.slot s hs).nodes (L.chains.slot s hs).chain
       ((L.chains.slot s hs).all x p.0 (sym (place_word_lem n words x p.0) ∙ p.1))
@@ -55,8 +55,8 @@ module _ {n slots segments : ℕ} {words : List ℕ} (L : Linked n slots segment
 -- ---- is_empty: one word tells
 
 -- a test of a word for 0, where the word is 0 just if the bucket has no node
-empty_test : (n bucket : ℕ) (words : List ℕ) (word k : ℕ) → k ≡ 0 → (word ≡ 0 → None (InBucket n bucket words))
-    → ((word ≡ 0 → ⊥) → Some (InBucket n bucket words)) → EmptyBucket n bucket words (eqb word k)
+empty_test : (n bucket : ℕ) (words : List ℕ) (word k : ℕ) → k ≡ 0 → (word ≡ 0 → NoNode (InBucket n bucket words))
+    → ((word ≡ 0 → ⊥) → SomeNode (InBucket n bucket words)) → EmptyBucket n bucket words (eqb word k)
 empty_test n bucket words word k z none some = go (eqb word k) refl
   where
     go : (t : Bool) → eqb word k ≡ t → EmptyBucket n bucket words t
@@ -138,7 +138,7 @@ pub record LeastWalk (n segments s : ℕ) (words keys : List ℕ) (best q : ℕ)
   seen : (x : ℕ) → InSlot n segments s words x → ListedIn x rest ⊎ Before keys best x
 
 module _ {n slots segments : ℕ} {words : List ℕ} (L : Linked n slots segments words) (s : ℕ) (hs : s < slots) (keys : List ℕ)
-    (some : Some (InSlot n segments s words)) where
+    (some : SomeNode (InSlot n segments s words)) where
   pub walk_nonempty : 0 < get_or words (heads n + s) 0
   walk_nonempty = go (dec_lt 0 (get_or words (heads n + s) 0))
     where

@@ -6,10 +6,10 @@ pub returns-then-bytes-gt65536 : goal.returns-then-bytes-gt65536
 returns-then-bytes-gt65536 c = too_long _ _ _ _ c.if-bytes-gt65536.true c.write_refusal.ensures
 
 pub write_front-requires : goal.write_front-requires
-write_front-requires c = front_read _ _ c.if-bytes-gt65536.false c.requires c.read.ensures c.in-Read.is
+write_front-requires c = front_read _ _ c.if-bytes-gt65536.false c.requires c.read.ensures c.in-Ok.is
 
-pub returns-in-Refused : goal.returns-in-Refused
-returns-in-Refused c = read_refused _ _ c.if-bytes-gt65536.false c.requires c.read.ensures _ _ c.in-Refused.is c.write_refusal-in-Refused.ensures
+pub returns-in-Err : goal.returns-in-Err
+returns-in-Err c = read_refused _ _ c.if-bytes-gt65536.false c.requires c.read.ensures _ _ c.in-Err.is c.write_refusal-in-Err.ensures
 
-pub returns-in-Read : goal.returns-in-Read
-returns-in-Read c = front_answered _ _ c.if-bytes-gt65536.false c.requires c.read.ensures c.in-Read.is _ _ c.write_front.ensures
+pub returns-in-Ok : goal.returns-in-Ok
+returns-in-Ok c = front_answered _ _ c.if-bytes-gt65536.false c.requires c.read.ensures c.in-Ok.is _ _ c.write_front.ensures

@@ -9,15 +9,15 @@ use borrow.Author.Rules.{rules}
 use Rattle.conversion.proofs.Writing.{front_written, front_refused}
 use Rattle.conversion.proofs.write_front.Goals as goal
 
-pub returns-in-Written : goal.returns-in-Written
-returns-in-Written c =
+pub returns-in-Ok : goal.returns-in-Ok
+returns-in-Ok c =
     front_written c.args.nodes c.args.arcs c.args.ceiling c.args.source.0 c.args.starts.now c.args.heads.now c.args.costs.now
-    c.requires.nodes_fit c.args.segments c.write-answer.ensures c.in-Written.is
+    c.requires.nodes_fit c.args.segments c.write-answer.ensures c.in-Ok.is
 
-pub returns-in-Refused : goal.returns-in-Refused
-returns-in-Refused c =
+pub returns-in-Err : goal.returns-in-Err
+returns-in-Err c =
     front_refused c.args.nodes c.args.arcs c.args.ceiling c.args.source.0 c.args.starts.now c.args.heads.now c.args.costs.now
-    c.requires.nodes_fit c.args.segments c.write-answer.ensures c.in-Refused.is c.write_refusal.ensures
+    c.requires.nodes_fit c.args.segments c.write-answer.ensures c.in-Err.is c.write_refusal.ensures
 
 pub slice_bounds-write-end : goal.slice_bounds-write-end
 slice_bounds-write-end c = sym (length-take-le _ _ (search rules))

@@ -1,31 +1,18 @@
 -- `destination_checks::map_check` meets its contract: where the lists pass, a cost can be looked at with its head's hold.
 use mathlib.Core.Path.{◌≡◌, sym, ◌∙◌}
-use mathlib.Core.List.{[], ◌∷◌}
-use Rattle.model.specs.declared.Check.TheVariants.{Passed}
-use Rattle.theory.specs.Runs.{Inputs, inputs}
-use Rattle.checks.specs.Checks.{first_fault, lists_checks}
+use borrow.Author.Rules.{rules}
 use Rattle.checks.proofs.Order.{one, stopped, gone_on}
 use Rattle.checks.proofs.Valid.{passed_ordered}
-use Rattle.destination_checks.specs.Destination.{head_sums_check}
 use Rattle.destination_checks.proofs.Ready.{ordered_summable_to}
 use Rattle.destination_checks.proofs.map_check.Goals as goal
 
-pub returns-in_default : goal.returns-in_default
-returns-in_default c =
-    let given : Inputs = inputs c.args.n c.args.ceiling c.args.destination.0 c.args.starts.now c.args.heads.now c.args.costs.now
-    c.args.holds.now in
-    stopped (lists_checks given) (head_sums_check given ∷ []) c.lists_check-lists.ensures c.in_default.is
+pub returns-in_err-lists_check : goal.returns-in_err-lists_check
+returns-in_err-lists_check c =
+    let same : c.from_residual.result ≡ c.lists_check.result = search rules in
+    same ∙ stopped _ _ c.lists_check.ensures c.in_err-lists_check.was
 
 pub head_sums_check-requires : goal.head_sums_check-requires
-head_sums_check-requires c =
-    let given : Inputs = inputs c.args.n c.args.ceiling c.args.destination.0 c.args.starts.now c.args.heads.now c.args.costs.now
-    c.args.holds.now in
-    let passed : first_fault (lists_checks given) ≡ Passed = sym c.lists_check-lists.ensures ∙ c.in-Passed.is in
-    ordered_summable_to (passed_ordered given passed)
+head_sums_check-requires c = ordered_summable_to (passed_ordered _ (sym c.lists_check.ensures ∙ c.in_ok-lists_check.was))
 
 pub returns : goal.returns
-returns c =
-    let given : Inputs = inputs c.args.n c.args.ceiling c.args.destination.0 c.args.starts.now c.args.heads.now c.args.costs.now
-    c.args.holds.now in
-    let passed : first_fault (lists_checks given) ≡ Passed = sym c.lists_check-lists.ensures ∙ c.in-Passed.is in
-    gone_on (lists_checks given) passed (one c.head_sums_check.ensures)
+returns c = gone_on _ (sym c.lists_check.ensures ∙ c.in_ok-lists_check.was) (one c.head_sums_check.ensures)

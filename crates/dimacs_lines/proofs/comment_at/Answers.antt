@@ -1,15 +1,15 @@
--- No line feed stands before `end`.
-use Rattle.dimacs_lines.proofs.Comments.{passed_start, passed_feed, passed_next, passed_end}
+use mathlib.Core.Path.{sym, ◌∙◌, ap}
+use Rattle.std.specs.Prelude.{option_map}
+use Rattle.dimacs_lines.proofs.Begins.{behind_place}
+use Rattle.dimacs_lines.proofs.Comments.{comment_to, comment_found}
 use Rattle.dimacs_lines.proofs.comment_at.Goals as goal
 
-pub returns-then-bytes-end-eq10 : goal.returns-then-bytes-end-eq10
-returns-then-bytes-end-eq10 c = passed_feed _ _ c.loop-end.invariant c.loop-end-test.true c.if-bytes-end-eq10.true
-
-pub loop-end-preserved : goal.loop-end-preserved
-loop-end-preserved c = passed_next _ _ c.loop-end.invariant c.loop-end-test.true c.if-bytes-end-eq10.false
-
-pub loop-end-init : goal.loop-end-init
-loop-end-init c = passed_start _ _ c.requires
+pub returns-in_err-feed : goal.returns-in_err-feed
+returns-in_err-feed c =
+    let found = rw (behind_place c.args.bytes.now c.args.at) at c.first_feed.ensures in
+    c.from_residual.ensures ∙ sym (ap (option_map comment_to) c.in_err-feed.was) ∙ comment_found _ found
 
 pub returns : goal.returns
-returns c = passed_end _ _ c.loop-end.invariant c.loop-end-test.false
+returns c =
+    let found = rw (behind_place c.args.bytes.now c.args.at) at c.first_feed.ensures in
+    sym (ap (option_map comment_to) c.in_ok-feed.was) ∙ comment_found _ found

@@ -2,9 +2,6 @@
 use Rattle.frontier.specs.Frontier.Laws.{first_left}
 use Rattle.frontier.proofs.take_first.Goals as goal
 
-pub take_first-requires : goal.take_first-requires
-take_first-requires c = record { linked = c.requires.frontier.linked; slot_lt_slots = c.requires.slot_lt_slots }
-
 pub returns : goal.returns
 returns c =
     let t = c.take_first in

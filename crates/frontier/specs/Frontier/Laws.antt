@@ -1,5 +1,5 @@
 -- What each change of the words makes of the labelled nodes, where they begin, and what they depend on.
-use Rattle.std.specs.Prelude.{ℕ, ◌+◌, ◌*◌, ◌≤◌, ◌<◌, ◌≡◌, refl, ◌⊎◌, ◌≢◌, List, length, get_or, set, replicate}
+use Rattle.std.specs.Prelude.{ℕ, ◌+◌, ◌*◌, ◌≤◌, ◌<◌, ◌≡◌, refl, ◌⊎◌, ◌≢◌, List, length, get_or, set, replicate, Option, Some, None}
 use Rattle.std.proofs.Common.{arith, sym, ◌∙◌, ap, inl, inr, length-set, get_or-set_same, get_or-set_other, get_or-drop, set-set}
 use Rattle.std.proofs.lemmas.List.{get_or-replicate}
 use Rattle.std.proofs.Math.Decide.{ℕ_discrete}
@@ -10,8 +10,7 @@ use Rattle.buckets.specs.Words.Laws.{places_length}
 use Rattle.buckets.specs.Links.{Linked, Moved}
 use Rattle.buckets.specs.Links.Laws.{linked_words, linked_zero, linked_mark, moved_here, moved_other}
 use Rattle.buckets.specs.Answer.{FirstTaken}
-use Rattle.buckets.specs.declared.Found.{Found}
-use Rattle.buckets.specs.declared.Found.TheVariants.{At, Nothing}
+use Rattle.model.specs.declared.Node.{Node}
 use Rattle.frontier.specs.Frontier.{Frontier, Placed, Current, FirstCurrent, FirstLeft}
 
 -- The bits take at most n words, and the summary four.
@@ -63,9 +62,9 @@ module _ {n slots segments : ℕ} {w : List ℕ} (F : Frontier n slots segments 
       was u h e (no q) = sym (moved_other F.linked m u q) ∙ e
 
   -- The first node of a slot, if there is one, is in no list.
-  pub first_left : (w' : List ℕ) (slot : ℕ) (r : Found) → FirstTaken n slots segments slot w w' r → FirstLeft n slots segments slot w w' r
-  first_left w' slot (At v) t = (t.0, moved_placed t.1 t.0.0 (λ e. omega (arith, t.0.1)) (omega arith))
-  first_left w' slot Nothing t = t
+  pub first_left : (w' : List ℕ) (slot : ℕ) (r : Option Node) → FirstTaken n slots segments slot w w' r → FirstLeft n slots segments slot w w' r
+  first_left w' slot (Some v) t = (t.0, moved_placed t.1 t.0.0 (λ e. omega (arith, t.0.1)) (omega arith))
+  first_left w' slot None t = t
 
   -- The word of a node that is in no list is stored after its bit was changed.
   module _ {w₁ : List ℕ} {v : ℕ} (hv : v < n) (free : get_or (places n w) v 0 < 512) (C : Changed 32 n (3 * n) (4 * n + 24) w w₁ v) (x : ℕ) (low : x < 512)

@@ -2,16 +2,20 @@
 use native.Mathlib.Omega.{arith}
 use mathlib.Core.Path.{sym}
 use lib.Seq.{length-take-le}
+use Rattle.planning.proofs.Both.{never_refused}
 use Rattle.itineraries.proofs.Listing.{run_routable, run_listed}
 use Rattle.itineraries.proofs.list_map.Goals as goal
 
 pub write_routes-requires : goal.write_routes-requires
 write_routes-requires c =
     let p = c.requires in
-    record { n_in_bounds = omega (arith, p.map_runnable.nodes_fit, p.route_len.1); route_len = p.route_len.0; all_routable = run_routable p.map_runnable _ c.one_level.ensures }
+    record { n_in_bounds = omega (arith, p.map_runnable.nodes_fit, p.route_len.1); route_len = p.route_len.0; all_routable = run_routable p.map_runnable _ c.run-run.ensures }
 
-pub returns : goal.returns
-returns c = run_listed c.requires.map_runnable _ c.one_level.ensures c.write_routes.ensures.text c.write_routes.ensures.list
+pub returns-in-Ok : goal.returns-in-Ok
+returns-in-Ok c = run_listed c.requires.map_runnable _ c.run-run.ensures c.write_routes.ensures.text c.write_routes.ensures.list
+
+pub returns-in-Err : goal.returns-in-Err
+returns-in-Err c = absurd (never_refused c.requires.map_runnable.accepted (rw c.in-Err.is at c.run-run.ensures))
 
 pub slice_bounds-map_starts-end : goal.slice_bounds-map_starts-end
 slice_bounds-map_starts-end c = sym (length-take-le _ _ c.requires.map_runnable.starts_fit)

@@ -1,12 +1,8 @@
--- `itineraries::put_nodes` meets its contract: the first i nodes are written.
-use Prim.Native.Nat.{◌-◌, ◌≤◌}
-use lib.ListN.{length, take}
+-- `itineraries::put_nodes` meets its contract: the first nodes are written.
+use lib.ListN.{take}
 use Rattle.fields.specs.Writing.{Writes}
 use Rattle.itineraries.specs.Itineraries.{behind_commas}
 use Rattle.itineraries.proofs.put_nodes.Given as goal
 
-abbrev pub invariant-loop-i : goal.invariant-loop-i
-invariant-loop-i l = Writes l.at (behind_commas (take l.i l.nodes)) l.initial.output l.output l.next × (l.i ≤ length l.nodes)
-
-abbrev pub decreases-loop-i : goal.decreases-loop-i
-decreases-loop-i l = length l.nodes - l.i
+abbrev pub invariant-loop-node : goal.invariant-loop-node
+invariant-loop-node l = Writes l.at (behind_commas (take l.node-index l.nodes)) l.initial.output l.output l.next

@@ -7,16 +7,6 @@ use Rattle.buckets.specs.Words.Laws.{count_low, set_recount, none_recount}
 use Rattle.buckets.specs.Links.Count.{count_le}
 use Rattle.linking.proofs.count_in.Goals as goal
 
-pub overflow_add-count-then-segments-gt1-2 : goal.overflow_add-count-then-segments-gt1-2
-overflow_add-count-then-segments-gt1-2 c =
-    let low : count_at c.args.n c.args.slots c.args.bucket < length c.args.words.now = count_low c.requires.linked.fits c.args.bucket c.requires.bucket_nonzero.1 c.if-segments-gt1.true in
-    omega (arith, low)
-
-pub offset_bounds-words-count : goal.offset_bounds-words-count
-offset_bounds-words-count c =
-    let low : count_at c.args.n c.args.slots c.args.bucket < length c.args.words.now = count_low c.requires.linked.fits c.args.bucket c.requires.bucket_nonzero.1 c.if-segments-gt1.true in
-    omega (arith, low)
-
 pub bounds-words-count : goal.bounds-words-count
 bounds-words-count c =
     let low : count_at c.args.n c.args.slots c.args.bucket < length c.args.words.now = count_low c.requires.linked.fits c.args.bucket c.requires.bucket_nonzero.1 c.if-segments-gt1.true in

@@ -7,23 +7,6 @@ use Rattle.buckets.specs.Words.Laws.{count_low, set_recount, none_recount}
 use Rattle.buckets.specs.Links.Count.{from_bucket, count_some}
 use Rattle.linking.proofs.count_out.Goals as goal
 
-pub overflow_sub-count : goal.overflow_sub-count
-overflow_sub-count c =
-    let from : (0 < c.args.bucket) × (c.args.bucket ≤ bucket_count c.args.slots c.args.segments) = rw c.requires.v_lt_n.1 (from_bucket c.requires.linked c.args.v c.requires.v_lt_n.0 c.requires.held) in
-    omega (arith, from)
-
-pub overflow_add-count-then-segments-gt1-2 : goal.overflow_add-count-then-segments-gt1-2
-overflow_add-count-then-segments-gt1-2 c =
-    let from : (0 < c.args.bucket) × (c.args.bucket ≤ bucket_count c.args.slots c.args.segments) = rw c.requires.v_lt_n.1 (from_bucket c.requires.linked c.args.v c.requires.v_lt_n.0 c.requires.held) in
-    let low : count_at c.args.n c.args.slots c.args.bucket < length c.args.words.now = count_low c.requires.linked.fits _ (from).1 c.if-segments-gt1.true in
-    omega (arith, low)
-
-pub offset_bounds-words-count : goal.offset_bounds-words-count
-offset_bounds-words-count c =
-    let from : (0 < c.args.bucket) × (c.args.bucket ≤ bucket_count c.args.slots c.args.segments) = rw c.requires.v_lt_n.1 (from_bucket c.requires.linked c.args.v c.requires.v_lt_n.0 c.requires.held) in
-    let low : count_at c.args.n c.args.slots c.args.bucket < length c.args.words.now = count_low c.requires.linked.fits _ (from).1 c.if-segments-gt1.true in
-    omega (arith, low)
-
 pub bounds-words-count : goal.bounds-words-count
 bounds-words-count c =
     let from : (0 < c.args.bucket) × (c.args.bucket ≤ bucket_count c.args.slots c.args.segments) = rw c.requires.v_lt_n.1 (from_bucket c.requires.linked c.args.v c.requires.v_lt_n.0 c.requires.held) in

@@ -1,21 +1,25 @@
 -- `linking::take` meets its contract: the count, and then the lists.
-use Prim.Native.Nat.{◌+◌, ◌*◌}
-use native.Mathlib.Omega.{arith}
 use mathlib.Core.Path.{sym}
 use Rattle.buckets.specs.Links.Count.{take_ready, take_before, take_moved}
 use Rattle.linking.proofs.take.Goals as goal
 
-pub overflow_cast-bucket : goal.overflow_cast-bucket
-overflow_cast-bucket c = omega (arith, c.type_inv.words (2 * c.args.n + c.args.v.0))
-
-pub overflow_cast-before : goal.overflow_cast-before
-overflow_cast-before c = omega (arith, c.type_inv.words (c.args.n + c.args.v.0))
-
-pub unlink-requires : goal.unlink-requires
-unlink-requires c =
+pub unlink-requires-clause-chains : goal.unlink-requires-clause-chains
+unlink-requires-clause-chains c =
     let r = take_ready c.requires.linked c.args.v.0 c.requires.v_lt_n c.requires.held c.count_out.ensures in
     let e = take_before c.requires.linked c.args.v.0 c.requires.v_lt_n c.requires.held c.count_out.ensures in
-    record { words_fit = r.0; chains = r.1; v_lt_n = (c.requires.v_lt_n, sym e); held = r.2 }
+    r.1
+
+pub unlink-requires-clause-v_lt_n : goal.unlink-requires-clause-v_lt_n
+unlink-requires-clause-v_lt_n c =
+    let r = take_ready c.requires.linked c.args.v.0 c.requires.v_lt_n c.requires.held c.count_out.ensures in
+    let e = take_before c.requires.linked c.args.v.0 c.requires.v_lt_n c.requires.held c.count_out.ensures in
+    (c.requires.v_lt_n, sym e)
+
+pub unlink-requires-clause-held : goal.unlink-requires-clause-held
+unlink-requires-clause-held c =
+    let r = take_ready c.requires.linked c.args.v.0 c.requires.v_lt_n c.requires.held c.count_out.ensures in
+    let e = take_before c.requires.linked c.args.v.0 c.requires.v_lt_n c.requires.held c.count_out.ensures in
+    r.2
 
 pub returns : goal.returns
 returns c = take_moved c.requires.linked c.args.v.0 c.requires.v_lt_n c.requires.held c.count_out.ensures c.unlink.ensures

@@ -7,30 +7,10 @@ use Rattle.buckets.specs.Words.Laws.{node_or_low}
 use Rattle.buckets.specs.Links.Take.{home_low, next_le, take_relinked}
 use Rattle.linking.proofs.unlink.Goals as goal
 
-pub offset_bounds-words-before : goal.offset_bounds-words-before
-offset_bounds-words-before c =
-    let low : c.args.before < heads c.args.n + c.args.slots = rw c.requires.v_lt_n.1 (home_low c.requires.words_fit c.requires.chains c.args.v c.requires.v_lt_n.0 c.requires.held) in
-    omega (arith, low)
-
 pub bounds-words-before : goal.bounds-words-before
 bounds-words-before c =
     let low : c.args.before < heads c.args.n + c.args.slots = rw c.requires.v_lt_n.1 (home_low c.requires.words_fit c.requires.chains c.args.v c.requires.v_lt_n.0 c.requires.held) in
     simp length-set (omega (arith, low))
-
-pub overflow_cast-words : goal.overflow_cast-words
-overflow_cast-words c =
-    let low : c.args.before < heads c.args.n + c.args.slots = rw c.requires.v_lt_n.1 (home_low c.requires.words_fit c.requires.chains c.args.v c.requires.v_lt_n.0 c.requires.held) in
-    omega (arith, low)
-
-pub overflow_add-words-2 : goal.overflow_add-words-2
-overflow_add-words-2 c =
-    let target : node_or (get_or c.args.words.now c.args.v 0) c.args.v < c.args.n = node_or_low _ _ _ (next_le c.requires.words_fit c.requires.chains c.args.v c.requires.v_lt_n.0 c.requires.held) c.requires.v_lt_n.0 in
-    omega (arith, c.node_or-u.ensures, target)
-
-pub offset_bounds-words-n-2 : goal.offset_bounds-words-n-2
-offset_bounds-words-n-2 c =
-    let target : node_or (get_or c.args.words.now c.args.v 0) c.args.v < c.args.n = node_or_low _ _ _ (next_le c.requires.words_fit c.requires.chains c.args.v c.requires.v_lt_n.0 c.requires.held) c.requires.v_lt_n.0 in
-    omega (arith, c.node_or-u.ensures, target)
 
 pub bounds-words-n-2 : goal.bounds-words-n-2
 bounds-words-n-2 c =

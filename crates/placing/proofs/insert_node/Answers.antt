@@ -5,16 +5,8 @@ use native.Mathlib.Nat.{le_refl}
 use mathlib.Core.Path.{refl, ◌∙◌, ap}
 use Rattle.state.specs.Tallies.{reads, after_event}
 use Rattle.state.proofs.Tallies.{same_reads}
-use Rattle.placing.proofs.Labelling.{entered_low, node, distances_long, current_few, read_few, fresh_read, fresh_entering, fresh_stands}
+use Rattle.placing.proofs.Labelling.{entered_low, current_few, read_few, fresh_entering, fresh_stands}
 use Rattle.placing.proofs.insert_node.Goals as goal
-
-pub bounds-distances-at : goal.bounds-distances-at
-bounds-distances-at c =
-    let L = c.requires.some_labels.labels in
-    omega (arith, node L, distances_long L)
-
-pub bucket_of-found-requires : goal.bucket_of-found-requires
-bucket_of-found-requires c = let all = fresh_read c.requires.some_labels.labels in record { start_in_bounds = all.0; start_bound = all.1 }
 
 pub enter-current-requires : goal.enter-current-requires
 enter-current-requires c = fresh_entering c.requires.some_labels.labels c.requires.v_value c.bucket_of-found.ensures
@@ -22,14 +14,10 @@ enter-current-requires c = fresh_entering c.requires.some_labels.labels c.requir
 pub read-requires : goal.read-requires
 read-requires c = omega (arith, same_reads c.inserted.ensures, read_few c.requires.some_labels.labels (le_refl _) c.bucket_of-found.ensures.1)
 
-pub returns : goal.returns
-returns c =
-    record {
-      stands = λ X before roster h L.
-          fresh_stands L c.requires.v_value c.bucket_of-found.ensures c.enter-current.ensures c.args.arc.0 refl refl refl
-          (c.read.ensures ∙ ap (after_event (reads c.bucket_of-found.result.reads)) c.inserted.ensures);
-      front = refl;
-    }
+pub returns-clause-stands : goal.returns-clause-stands
+returns-clause-stands c = λ X before roster h L.
+    fresh_stands L c.requires.v_value c.bucket_of-found.ensures c.enter-current.ensures c.args.arc.0 refl refl refl
+    (c.read.ensures ∙ ap (after_event (reads c.bucket_of-found.result.reads)) c.inserted.ensures)
 
 pub overflow_add-result : goal.overflow_add-result
 overflow_add-result c =

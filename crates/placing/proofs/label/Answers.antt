@@ -4,25 +4,12 @@ use native.Mathlib.Omega.{arith}
 use mathlib.Core.Path.{◌≡◌, refl, sym, ◌∙◌, ap}
 use mathlib.Core.Logic.{◌≢◌}
 use lib.ListN.{get_or}
-use borrow.Author.Tests.{eqb-true, eqb-false}
+use borrow.Author.Tests.{eqb-false}
 use Rattle.buckets.specs.Words.{places, place_bucket}
 use Rattle.state.specs.Tallies.{decrease, reads, after_event}
 use Rattle.state.proofs.Tallies.{same_reads}
-use Rattle.placing.proofs.Labelling.{entered_low, node, distances_long, words_long, current_few, held_far, read_few, held_start, held_read, standing, stays_stands, held_entering, held_stands}
+use Rattle.placing.proofs.Labelling.{entered_low, node, current_few, held_far, read_few, held_start, held_read, standing, stays_stands, held_entering, held_stands}
 use Rattle.placing.proofs.label.Goals as goal
-
-pub place_of-place-requires : goal.place_of-place-requires
-place_of-place-requires c = (node c.requires.labels, omega (arith, words_long c.requires.labels))
-
-pub bounds-distances-at : goal.bounds-distances-at
-bounds-distances-at c =
-    let L = c.requires.labels in
-    omega (arith, node L, distances_long L)
-
-pub insert_node-requires : goal.insert_node-requires
-insert_node-requires c =
-    let fresh : get_or (places c.args.layout.nodes c.args.words.now) c.args.v.0 0 ≡ 0 = sym c.place_of-place.ensures ∙ eqb-true _ 0 (sym c.is_unlabelled.ensures ∙ c.if-is_unlabelled.true) in
-    record { some_labels = c.requires; v_value = fresh }
 
 pub bucket_held-held-requires : goal.bucket_held-held-requires
 bucket_held-held-requires c =
@@ -50,26 +37,23 @@ stays-requires c =
     let from : c.place_bucket-start.result ≡ place_bucket place = c.place_bucket-start.ensures ∙ ap place_bucket read in
     rw read (standing c.requires.labels held from c.bucket_held-held.ensures)
 
-pub returns-then-stays : goal.returns-then-stays
-returns-then-stays c =
+pub returns-then-stays-clause-stands : goal.returns-then-stays-clause-stands
+returns-then-stays-clause-stands c =
     let told : c.read-tally.result ≡ after_event (reads c.bucket_held-held.result.reads) (after_event decrease c.args.state.tally) = c.read-tally.ensures ∙ ap (after_event (reads c.bucket_held-held.result.reads)) c.decreased-decreased.ensures in
     let place : ℕ = get_or (places c.args.layout.nodes c.args.words.now) c.args.v.0 0 in
     let read : c.place_of-place.result ≡ place = c.place_of-place.ensures in
     let held : place ≢ 0 = λ e. eqb-false _ 0 (sym c.is_unlabelled.ensures ∙ c.if-is_unlabelled.false) (read ∙ e) in
     let from : c.place_bucket-start.result ≡ place_bucket place = c.place_bucket-start.ensures ∙ ap place_bucket read in
-    record {
-      stands = λ X before roster h' L.
-          stays_stands L held from c.bucket_held-held.ensures (rw read at (c.stays.ensures c.if-stays.true)) c.args.arc.0 refl refl refl told;
-      front = refl;
-    }
+    λ X before roster h' L.
+    stays_stands L held from c.bucket_held-held.ensures (rw read at (c.stays.ensures c.if-stays.true)) c.args.arc.0 refl refl refl told
 
-pub leave_slot-requires : goal.leave_slot-requires
-leave_slot-requires c =
+pub leave_slot-requires-clause-v_lt_n : goal.leave_slot-requires-clause-v_lt_n
+leave_slot-requires-clause-v_lt_n c =
     let place : ℕ = get_or (places c.args.layout.nodes c.args.words.now) c.args.v.0 0 in
     let read : c.place_of-place.result ≡ place = c.place_of-place.ensures in
     let held : place ≢ 0 = λ e. eqb-false _ 0 (sym c.is_unlabelled.ensures ∙ c.if-is_unlabelled.false) (read ∙ e) in
     let L = c.requires.labels in
-    record { frontier = L.stands.frontier; v_lt_n = (node L, held_far L held) }
+    (node L, held_far L held)
 
 pub enter-current-requires : goal.enter-current-requires
 enter-current-requires c =
@@ -79,18 +63,15 @@ enter-current-requires c =
     let from : c.place_bucket-start.result ≡ place_bucket place = c.place_bucket-start.ensures ∙ ap place_bucket read in
     held_entering c.requires.labels held from c.bucket_held-held.ensures c.leave_slot.ensures
 
-pub returns : goal.returns
-returns c =
+pub returns-clause-stands : goal.returns-clause-stands
+returns-clause-stands c =
     let told : c.read-tally.result ≡ after_event (reads c.bucket_held-held.result.reads) (after_event decrease c.args.state.tally) = c.read-tally.ensures ∙ ap (after_event (reads c.bucket_held-held.result.reads)) c.decreased-decreased.ensures in
     let place : ℕ = get_or (places c.args.layout.nodes c.args.words.now) c.args.v.0 0 in
     let read : c.place_of-place.result ≡ place = c.place_of-place.ensures in
     let held : place ≢ 0 = λ e. eqb-false _ 0 (sym c.is_unlabelled.ensures ∙ c.if-is_unlabelled.false) (read ∙ e) in
     let from : c.place_bucket-start.result ≡ place_bucket place = c.place_bucket-start.ensures ∙ ap place_bucket read in
-    record {
-      stands = λ X before roster h' L.
-          held_stands L held from c.bucket_held-held.ensures c.leave_slot.ensures c.enter-current.ensures c.args.arc.0 refl refl refl told;
-      front = refl;
-    }
+    λ X before roster h' L.
+    held_stands L held from c.bucket_held-held.ensures c.leave_slot.ensures c.enter-current.ensures c.args.arc.0 refl refl refl told
 
 pub overflow_add-result : goal.overflow_add-result
 overflow_add-result c =

@@ -1,7 +1,6 @@
 -- `placing::relax` meets its contract.
 use native.Mathlib.Omega.{arith}
 use Rattle.placing.proofs.Relaxation.{sum_fits, head_in, relax_labels, relaxed_label, relaxed_same}
-use borrow.Author.Rules.{rules}
 use Rattle.placing.proofs.relax.Goals as goal
 
 pub overflow_add-sum : goal.overflow_add-sum
@@ -15,11 +14,11 @@ label-requires c =
     let p = c.requires in
     record { setting = p.setting; before = p.before; roster = p.roster; heap = p.heap; labels = relax_labels p.relaxes c.if-sum-distances.true }
 
-pub returns-then-sum-distances : goal.returns-then-sum-distances
-returns-then-sum-distances c =
+pub returns-then-sum-distances-clause-stands : goal.returns-then-sum-distances-clause-stands
+returns-then-sum-distances-clause-stands c =
     let falls = c.if-sum-distances.true in
     let made = c.label.ensures in
-    record { stands = λ X before roster u ls h R. rw (relaxed_label R falls) at (made.stands X before roster h (relax_labels R falls)); front = made.front }
+    λ X before roster u ls h R. rw (relaxed_label R falls) at (made.stands X before roster h (relax_labels R falls))
 
-pub returns : goal.returns
-returns c = record { stands = λ X before roster u ls h R. rw (← (relaxed_same R c.if-sum-distances.false)) R.stands; front = search rules }
+pub returns-clause-stands : goal.returns-clause-stands
+returns-clause-stands c = λ X before roster u ls h R. rw (← (relaxed_same R c.if-sum-distances.false)) R.stands

@@ -1,18 +1,7 @@
 -- `placing::stays` meets its contract.
-use Prim.Native.Nat.{ℕ}
-use native.Mathlib.Omega.{arith}
-use mathlib.Core.Path.{◌≡◌, sym, ◌∙◌}
-use Rattle.placing.proofs.Staying.{Names, names_slot, product_few, product_low, bucket_low, segment_high, below_end, stays_word}
+use mathlib.Core.Path.{sym, ◌∙◌}
+use Rattle.placing.proofs.Staying.{Names, product_low, bucket_low, segment_high, below_end, stays_word}
 use Rattle.placing.proofs.stays.Goals as goal
-
-pub returns-then-key-front : goal.returns-then-key-front
-returns-then-key-front c e = let z : ◌≡◌ {A = ℕ} 0 1 = cc in absurd (omega arith)
-
-pub returns-then-held-bucket : goal.returns-then-held-bucket
-returns-then-held-bucket c e = let z : ◌≡◌ {A = ℕ} 0 1 = cc in absurd (omega arith)
-
-pub place_slot-slot-requires : goal.place_slot-slot-requires
-place_slot-slot-requires c = names_slot c.requires
 
 pub is_in_segment-requires : goal.is_in_segment-requires
 is_in_segment-requires c =
@@ -25,16 +14,6 @@ pub returns : goal.returns
 returns c e =
     let names : Names c.args.place c.place_bucket-bucket.result c.place_slot-slot.result = record { bucket_is = c.place_bucket-bucket.ensures; slot_is = c.place_slot-slot.ensures } in
     stays_word c.requires names c.if-key-front.false c.if-held-bucket.false (sym c.is_in_segment.ensures ∙ e)
-
-pub overflow_sub-segment : goal.overflow_sub-segment
-overflow_sub-segment c =
-    let names : Names c.args.place c.place_bucket-bucket.result c.place_slot-slot.result = record { bucket_is = c.place_bucket-bucket.ensures; slot_is = c.place_slot-slot.ensures } in
-    bucket_low c.requires names
-
-pub overflow_mul-segment : goal.overflow_mul-segment
-overflow_mul-segment c =
-    let names : Names c.args.place c.place_bucket-bucket.result c.place_slot-slot.result = record { bucket_is = c.place_bucket-bucket.ensures; slot_is = c.place_slot-slot.ensures } in
-    omega (arith, product_few c.requires names)
 
 pub overflow_sub-segment-2 : goal.overflow_sub-segment-2
 overflow_sub-segment-2 c =

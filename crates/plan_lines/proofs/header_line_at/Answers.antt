@@ -7,4 +7,4 @@ pub returns-in_default : goal.returns-in_default
 returns-in_default c = c.held_header_at.ensures ∙ not_five _ (sym c.in_default.ensures)
 
 pub returns : goal.returns
-returns c = five_header _ (sym c.in-NumbersRead.ensures)
+returns c = rw c.header_told.ensures (five_header _ (sym c.in-Some.ensures))

@@ -8,26 +8,26 @@ use Rattle.plan_sums.proofs.arc_sums_check.Goals as goal
 
 pub overflow_sub-tail : goal.overflow_sub-tail
 overflow_sub-tail c =
-    omega (arith, tail_low c.loop-i.invariant c.loop-i-test.true (sym c.in-ArcRead.ensures))
+    omega (arith, tail_low c.loop-i.invariant c.loop-i-test.true (sym c.in-Some.ensures))
 
 pub lines_taken-hold_line-requires : goal.lines_taken-hold_line-requires
 lines_taken-hold_line-requires c = (c.loop-i.invariant.hold_within, (omega arith, omega arith))
 
 pub overflow_sub-ceiling : goal.overflow_sub-ceiling
 overflow_sub-ceiling c =
-    hold_most c.loop-i.invariant c.loop-i-test.true (sym c.in-ArcRead.ensures) c.lines_taken-hold_line.ensures (sym c.in-HoldRead.ensures)
+    hold_most c.loop-i.invariant c.loop-i-test.true (sym c.in-Some.ensures) c.lines_taken-hold_line.ensures (sym c.in-Some-hold_line_at.ensures)
 
 pub returns-then-cost-ceiling : goal.returns-then-cost-ceiling
 returns-then-cost-ceiling c =
-    sum_above c.loop-i.invariant c.loop-i-test.true (sym c.in-ArcRead.ensures) c.lines_taken-hold_line.ensures (sym c.in-HoldRead.ensures) c.if-cost-ceiling.true
+    sum_above c.loop-i.invariant c.loop-i-test.true (sym c.in-Some.ensures) c.lines_taken-hold_line.ensures (sym c.in-Some-hold_line_at.ensures) c.if-cost-ceiling.true
 
 pub overflow_add-line : goal.overflow_add-line
 overflow_add-line c =
-    omega (arith, next_within c.args.bytes.now c.loop-i.line c.loop-i.invariant.within (arc_line_lem _ (sym c.in-ArcRead.ensures)))
+    omega (arith, next_within c.args.bytes.now c.loop-i.line c.loop-i.invariant.within (arc_line_lem _ (sym c.in-Some.ensures)))
 
 pub loop-i-preserved : goal.loop-i-preserved
 loop-i-preserved c =
-    summing_next c.loop-i.invariant c.loop-i-test.true (sym c.in-ArcRead.ensures) c.lines_taken-hold_line.ensures (sym c.in-HoldRead.ensures) c.if-cost-ceiling.false
+    summing_next c.loop-i.invariant c.loop-i-test.true (sym c.in-Some.ensures) c.lines_taken-hold_line.ensures (sym c.in-Some-hold_line_at.ensures) c.if-cost-ceiling.false
 
 pub returns : goal.returns
 returns c = summing_end c.loop-i.invariant c.loop-i-test.false
@@ -44,16 +44,13 @@ returns-in_default c =
 
 pub overflow_add-hold_line : goal.overflow_add-hold_line
 overflow_add-hold_line c =
-    omega (arith, place_within c.loop-i.invariant c.loop-i-test.true (sym c.in-ArcRead.ensures) c.lines_taken-hold_line.ensures)
+    omega (arith, place_within c.loop-i.invariant c.loop-i-test.true (sym c.in-Some.ensures) c.lines_taken-hold_line.ensures)
 
 pub hold_line_at-requires : goal.hold_line_at-requires
 hold_line_at-requires c =
-    place_within c.loop-i.invariant c.loop-i-test.true (sym c.in-ArcRead.ensures) c.lines_taken-hold_line.ensures
+    place_within c.loop-i.invariant c.loop-i-test.true (sym c.in-Some.ensures) c.lines_taken-hold_line.ensures
 
 pub returns-in_default-hold_line_at : goal.returns-in_default-hold_line_at
 returns-in_default-hold_line_at c =
-    absurd (hold_missing c.loop-i.invariant c.loop-i-test.true (sym c.in-ArcRead.ensures) c.lines_taken-hold_line.ensures
+    absurd (hold_missing c.loop-i.invariant c.loop-i-test.true (sym c.in-Some.ensures) c.lines_taken-hold_line.ensures
     (sym c.in_default-hold_line_at.ensures))
-
-pub overflow_add-i : goal.overflow_add-i
-overflow_add-i c = omega (arith, c.loop-i-test.true)

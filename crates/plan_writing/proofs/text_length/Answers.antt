@@ -24,12 +24,3 @@ returns c =
       c.holds_length.ensures,
       text_length args.first.now args.n args.starts.now args.heads.now args.costs.now args.told.now,
     )
-
-pub line_length-requires : goal.line_length-requires
-line_length-requires c = c.requires.few_numbers
-
-pub arcs_length-requires : goal.arcs_length-requires
-arcs_length-requires c = c.requires.in_order
-
-pub holds_length-requires : goal.holds_length-requires
-holds_length-requires c = c.requires.few_holds

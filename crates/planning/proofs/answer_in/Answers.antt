@@ -8,10 +8,10 @@ returns-then-bytes-gt65536 c = too_long _ _ c.if-bytes-gt65536.true c.write_refu
 pub plan_map-requires : goal.plan_map-requires
 plan_map-requires c =
     let lends = c.requires in
-    record { both_runnable = both_read _ c.if-bytes-gt65536.false lends.lists c.read.ensures c.in-Read.is; output_len = lends.output_bytes }
+    record { both_runnable = both_read _ c.if-bytes-gt65536.false lends.lists c.read.ensures c.in-Ok.is; output_len = lends.output_bytes }
 
-pub returns-in-Refused : goal.returns-in-Refused
-returns-in-Refused c = read_refused _ c.if-bytes-gt65536.false c.requires.lists c.read.ensures c.in-Refused.is c.write_refusal-in-Refused.ensures
+pub returns-in-Err : goal.returns-in-Err
+returns-in-Err c = read_refused _ c.if-bytes-gt65536.false c.requires.lists c.read.ensures c.in-Err.is c.write_refusal-in-Err.ensures
 
-pub returns-in-Read : goal.returns-in-Read
-returns-in-Read c = map_answered _ c.if-bytes-gt65536.false c.requires.lists c.read.ensures c.in-Read.is c.plan_map.ensures
+pub returns-in-Ok : goal.returns-in-Ok
+returns-in-Ok c = map_answered _ c.if-bytes-gt65536.false c.requires.lists c.read.ensures c.in-Ok.is c.plan_map.ensures

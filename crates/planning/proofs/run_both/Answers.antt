@@ -2,15 +2,26 @@
 use native.Mathlib.Omega.{arith}
 use mathlib.Core.Path.{sym}
 use lib.Seq.{length-take-le}
-use Rattle.planning.proofs.Both.{both_returned}
+use Rattle.planning.specs.Planning.{PlanLists, plan_lists}
+use Rattle.planning.proofs.Both.{never_refused, second_runs, both_returned}
 use Rattle.planning.proofs.run_both.Goals as goal
+
+pub returns-in_err-one : goal.returns-in_err-one
+returns-in_err-one c = absurd (never_refused c.requires.one_level.accepted (rw c.in_err-one.was at c.run.ensures))
+
+pub returns-in_err-two : goal.returns-in_err-two
+returns-in_err-two c =
+    let l : PlanLists = plan_lists c.args.starts.now c.args.heads.now c.args.costs.now c.args.holds.now
+    c.args.distances.now c.args.parents.now c.args.roster.now c.args.work.now in
+    absurd (second_runs _ _ l l c.requires.two_level.accepted _
+    (omega (arith, c.run.auto.distances)) (omega (arith, c.run.auto.parents)) (omega (arith, c.run.auto.roster)) (omega (arith, c.run.auto.work))
+    (rw c.in_err-two.was at c.run-2.ensures))
 
 pub returns : goal.returns
 returns c =
-    let runnable = c.requires in
-    both_returned _ _ _ _ runnable.two_level.accepted runnable.one_level.accepted c.one_level-one.ensures c.two_level-two.ensures
-    (omega (arith, c.one_level-one.auto.distances)) (omega (arith, c.one_level-one.auto.parents)) (omega (arith, c.one_level-one.auto.roster)) (omega (arith, c.one_level-one.auto.work))
-    c.numbers_of.ensures c.numbers_of-2.ensures
+    both_returned _ _ _ _ c.requires.two_level.accepted _
+    (omega (arith, c.run.auto.distances)) (omega (arith, c.run.auto.parents)) (omega (arith, c.run.auto.roster)) (omega (arith, c.run.auto.work))
+    c.requires.one_level.accepted (rw c.in_ok-one.was at c.run.ensures) (rw c.in_ok-two.was at c.run-2.ensures)
 
 pub slice_bounds-map_starts-end : goal.slice_bounds-map_starts-end
 slice_bounds-map_starts-end c = sym (length-take-le _ _ c.requires.one_level.starts_fit)
@@ -25,13 +36,13 @@ pub slice_bounds-map_holds-end : goal.slice_bounds-map_holds-end
 slice_bounds-map_holds-end c = sym (length-take-le _ _ c.requires.one_level.holds_fit)
 
 pub shape_of-distances : goal.shape_of-distances
-shape_of-distances c = omega (arith, c.two_level-two.auto.distances, c.one_level-one.auto.distances)
+shape_of-distances c = omega (arith, c.run-2.auto.distances, c.run.auto.distances)
 
 pub shape_of-parents : goal.shape_of-parents
-shape_of-parents c = omega (arith, c.two_level-two.auto.parents, c.one_level-one.auto.parents)
+shape_of-parents c = omega (arith, c.run-2.auto.parents, c.run.auto.parents)
 
 pub shape_of-roster : goal.shape_of-roster
-shape_of-roster c = omega (arith, c.two_level-two.auto.roster, c.one_level-one.auto.roster)
+shape_of-roster c = omega (arith, c.run-2.auto.roster, c.run.auto.roster)
 
 pub shape_of-work : goal.shape_of-work
-shape_of-work c = omega (arith, c.two_level-two.auto.work, c.one_level-one.auto.work)
+shape_of-work c = omega (arith, c.run-2.auto.work, c.run.auto.work)

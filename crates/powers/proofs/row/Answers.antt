@@ -9,7 +9,7 @@ use Rattle.powers.proofs.row.Goals as goal
 -- no number is 0, and every row stands where its start says: each computed of the constants, once
 pub stored-requires : goal.stored-requires
 unfolding power power_row
-stored-requires c = record { t = tt; t_2 = tt; le_segments = search rules; segments_bound = search rules }
+stored-requires c = record { no_zero = tt; rows_stand = tt; le_segments = search rules; segments_bound = search rules }
 
 pub returns-in_default : goal.returns-in_default
 returns-in_default c = sym (row_none c.args.segments (inl (search rules)))

@@ -3,17 +3,14 @@ use Prim.Native.Nat.{◌+◌, ◌≤◌}
 use native.Mathlib.Omega.{arith}
 use mathlib.Core.Path.{refl}
 use Rattle.removal.proofs.Counts.{reached_low, roster_long, nodes_few, looks_few, looks_most}
-use Rattle.removal.proofs.Current.{current_node, under, within, segment_is, current_removal}
+use Rattle.removal.proofs.Current.{current_node, within, segment_is, current_removal}
 use Rattle.removal.proofs.remove_current.Goals as goal
 
-pub current_segment-segment-requires : goal.current_segment-segment-requires
-current_segment-segment-requires c = record { front_le_bound = rw c.bound_of-bound.ensures (under c.requires.some_rests.rests c.requires.current_nonzero); front_bound = rw c.bound_of-bound.ensures (within c.requires.some_rests.rests c.requires.current_nonzero) }
+pub current_segment-segment-requires-clause-front_bound : goal.current_segment-segment-requires-clause-front_bound
+current_segment-segment-requires-clause-front_bound c = rw c.bound_of-bound.ensures (within c.requires.some_rests.rests c.requires.current_nonzero)
 
-pub looks_of-looks-requires : goal.looks_of-looks-requires
-looks_of-looks-requires c = record { bucket_bound = omega arith; segment_bound = omega (arith, c.current_segment-segment.ensures, c.requires.some_rests.setting.agrees.most) }
-
-pub take_current-v-requires : goal.take_current-v-requires
-take_current-v-requires c = record { frontier = c.requires.some_rests.rests.stands.frontier; current = current_node c.requires.some_rests.rests c.requires.current_nonzero }
+pub take_current-v-requires-clause-current : goal.take_current-v-requires-clause-current
+take_current-v-requires-clause-current c = current_node c.requires.some_rests.rests c.requires.current_nonzero
 
 pub bounds-roster-at : goal.bounds-roster-at
 bounds-roster-at c = omega (arith, reached_low c.requires.some_rests.rests, roster_long c.requires.some_rests.rests)

@@ -7,38 +7,17 @@ use Rattle.finding.specs.Finding.{looks_of}
 use mathlib.Core.Path.{refl, ◌∙◌, ap}
 use Rattle.state.specs.Tallies.{looks, after_event}
 use Rattle.removal.proofs.Counts.{reached_low, roster_long, nodes_few, looks_few, looks_most}
-use Rattle.removal.proofs.Listed.{listed_holds, bucket_some, slot_in, distances_long, held, renews, Taken, words_distribute, words_removed}
+use Rattle.removal.proofs.Listed.{listed_holds, slot_in, distances_long, renews, Taken, words_distribute, words_removed}
 use Rattle.removal.proofs.remove_listed.Goals as goal
 
 pub lowest_bucket-bucket-requires : goal.lowest_bucket-bucket-requires
 lowest_bucket-bucket-requires c = listed_holds c.requires.some_rests.rests c.requires.current_value
 
-pub lowest_segment-segment-requires : goal.lowest_segment-segment-requires
-lowest_segment-segment-requires c = bucket_some c.requires.some_rests.rests c.requires.current_value c.lowest_bucket-bucket.ensures
-
-pub overflow_mul-slot : goal.overflow_mul-slot
-overflow_mul-slot c =
-    let slot_few : (c.lowest_bucket-bucket.result - 1) * c.args.layout.segments + (c.lowest_segment-segment.result - 1) < c.args.layout.slots = slot_in c.requires.some_rests.rests c.requires.current_value c.lowest_segment-segment.ensures in
-    omega (arith, slot_few, c.requires.some_rests.rests.stands.frontier.linked.fits.few)
-
-pub overflow_add-slot : goal.overflow_add-slot
-overflow_add-slot c =
-    let slot_few : (c.lowest_bucket-bucket.result - 1) * c.args.layout.segments + (c.lowest_segment-segment.result - 1) < c.args.layout.slots = slot_in c.requires.some_rests.rests c.requires.current_value c.lowest_segment-segment.ensures in
-    omega (arith, slot_few, c.requires.some_rests.rests.stands.frontier.linked.fits.few)
-
-pub least-v-requires : goal.least-v-requires
-least-v-requires c =
+pub least-v-requires-clause-slot_lt_slots : goal.least-v-requires-clause-slot_lt_slots
+least-v-requires-clause-slot_lt_slots c =
     let slot_few : (c.lowest_bucket-bucket.result - 1) * c.args.layout.segments + (c.lowest_segment-segment.result - 1) < c.args.layout.slots = slot_in c.requires.some_rests.rests c.requires.current_value c.lowest_segment-segment.ensures in
     let p = c.requires in
-    record { linked = p.some_rests.rests.stands.frontier.linked; slot_lt_slots = (slot_few, distances_long p.some_rests.rests p.current_value); some = c.lowest_segment-segment.ensures.some }
-
-pub bounds-distances-v : goal.bounds-distances-v
-bounds-distances-v c =
-    let p = c.requires in
-    omega (arith, c.least-v.ensures.in_slot.0, distances_long p.some_rests.rests p.current_value)
-
-pub scan_slot-requires : goal.scan_slot-requires
-scan_slot-requires c = let p = c.requires in record { frontier = p.some_rests.rests.stands.frontier; v_lt_n = (c.least-v.ensures.in_slot.0, held p.some_rests.rests p.current_value c.lowest_bucket-bucket.ensures c.lowest_segment-segment.ensures c.least-v.ensures) }
+    (slot_few, distances_long p.some_rests.rests p.current_value)
 
 pub renew_bounds-requires : goal.renew_bounds-requires
 renew_bounds-requires c =
@@ -50,12 +29,6 @@ pub bounds-roster-next : goal.bounds-roster-next
 bounds-roster-next c =
     let R = c.requires.some_rests.rests in
     omega (arith, reached_low R, roster_long R, c.least-v.ensures.in_slot.0)
-
-pub looks_of-looks-requires : goal.looks_of-looks-requires
-looks_of-looks-requires c =
-    let p = c.requires in
-    let slot = c.lowest_segment-segment.ensures.slot in
-    record { bucket_bound = omega (arith, slot.last, p.some_rests.setting.agrees.sized.few); segment_bound = omega (arith, slot.high, p.some_rests.setting.agrees.most) }
 
 pub looked-requires : goal.looked-requires
 looked-requires c =

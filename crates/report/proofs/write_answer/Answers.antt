@@ -10,7 +10,7 @@ write_heap-third-requires c =
     let given = c.args in
     omega (
       arith,
-      counts_most given.nodes given.arcs given.reached given.decreases,
+      counts_most given.nodes given.arcs given.one.reached given.one.counts.decreases,
       c.write_counts-second.ensures.behind,
     )
 
@@ -19,8 +19,8 @@ write_heap-next-requires c =
     let given = c.args in
     omega (
       arith,
-      counts_most given.nodes given.arcs given.reached given.decreases,
-      heap_most word_one given.one.buckets given.one.placements given.one.looks given.one.reads,
+      counts_most given.nodes given.arcs given.one.reached given.one.counts.decreases,
+      heap_most word_one given.one.buckets given.one.counts.placements given.one.counts.looks given.one.counts.reads,
       c.write_counts-second.ensures.behind,
       c.write_heap-third.ensures.behind,
     )
@@ -30,15 +30,15 @@ write_nodes-requires c =
     let given = c.args in record {
       nodes_in_bounds = omega (
         arith,
-        counts_most given.nodes given.arcs given.reached given.decreases,
-        heap_most word_one given.one.buckets given.one.placements given.one.looks given.one.reads,
-        heap_most word_two given.two.buckets given.two.placements given.two.looks given.two.reads,
+        counts_most given.nodes given.arcs given.one.reached given.one.counts.decreases,
+        heap_most word_one given.one.buckets given.one.counts.placements given.one.counts.looks given.one.counts.reads,
+        heap_most word_two given.two.buckets given.two.counts.placements given.two.counts.looks given.two.counts.reads,
         c.write_counts-second.ensures.behind,
         c.write_heap-third.ensures.behind,
         c.write_heap-next.ensures.behind,
         c.requires.nodes_in_bounds,
       );
-      nodes_in_bounds_2 = c.requires.nodes_in_bounds_2;
+      lists_hold_nodes = c.requires.lists_hold_nodes;
     }
 
 pub returns : goal.returns

@@ -13,7 +13,7 @@ put_field-fourth-requires c =
     omega (
       arith,
       ended_length given.word.now comma,
-      field_most given.heap.buckets comma,
+      field_most given.run.buckets comma,
       c.put_word-second.ensures.behind,
       c.put_field-third.ensures.behind,
     )
@@ -24,8 +24,8 @@ put_two-requires c =
     omega (
       arith,
       ended_length given.word.now comma,
-      field_most given.heap.buckets comma,
-      field_most given.heap.placements comma,
+      field_most given.run.buckets comma,
+      field_most given.run.counts.placements comma,
       c.put_word-second.ensures.behind,
       c.put_field-third.ensures.behind,
       c.put_field-fourth.ensures.behind,

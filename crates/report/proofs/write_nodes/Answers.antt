@@ -1,8 +1,6 @@
 -- The lines of the first v nodes are written.
-use mathlib.Core.Path.{◌≡◌}
 use native.Mathlib.Numerals.{add-one}
 use native.Mathlib.Omega.{arith}
-use borrow.Author.Rules.{rules}
 use Rattle.fields.proofs.Written.{writes_nothing, writes_then, writes_same, writes_length}
 use Rattle.report.specs.Report.{node_lines}
 use Rattle.report.proofs.Lines.{nodes_next, nodes_most}
@@ -10,7 +8,7 @@ use Rattle.report.proofs.write_nodes.Goals as goal
 
 pub loop-v-init : goal.loop-v-init
 unfolding node_lines
-loop-v-init c = (search rules, writes_nothing _ _ (omega arith))
+loop-v-init c = writes_nothing _ _ (omega arith)
 
 pub write_node-next-requires : goal.write_node-next-requires
 write_node-next-requires c =
@@ -18,8 +16,8 @@ write_node-next-requires c =
     omega (
       arith,
       nodes_most loop.v c.args.distances.now c.args.parents.now,
-      loop.invariant.1.behind,
-      writes_length loop.invariant.1,
+      loop.invariant.behind,
+      writes_length loop.invariant,
       c.requires.nodes_in_bounds,
       c.loop-v-test.true,
     )
@@ -27,17 +25,7 @@ write_node-next-requires c =
 pub loop-v-preserved : goal.loop-v-preserved
 loop-v-preserved c =
     let loop = c.loop-v in
-    let given = c.args in (
-      search rules,
-      rw (add-one loop.v)
-          (writes_same (nodes_next loop.v given.distances.now given.parents.now)
-          (writes_then loop.invariant.1 c.write_node-next.ensures)),
-    )
-
-pub shape_of-buffer : goal.shape_of-buffer
-shape_of-buffer c = writes_length c.loop-v.invariant.1
-
-pub returns : goal.returns
-returns c =
-    let all : c.loop-v.v ≡ c.args.nodes = omega arith in
-    rw all at c.loop-v.invariant.1
+    let given = c.args in
+    rw (add-one loop.v)
+    (writes_same (nodes_next loop.v given.distances.now given.parents.now)
+    (writes_then loop.invariant c.write_node-next.ensures))

@@ -2,4 +2,4 @@
 use Rattle.roosternow.proofs.roosternow_two_level.Goals as goal
 
 pub returns : goal.returns
-returns c = record { answer = c.two_level-two.result; promised = c.two_level-two.ensures; numbers = c.run_words.ensures }
+returns c = record { answer = c.run-two.result; promised = c.run-two.ensures; numbers = c.run_words.ensures }

@@ -1,5 +1,6 @@
 -- `runs::steps` meets its contract.
 use native.Mathlib.Omega.{arith}
+use mathlib.Core.Path.{refl, sym}
 use Rattle.runs.proofs.Accepted.{top_few, placements_few, ended_ran, built_two, built_slots, built_runs, built_ended}
 use Rattle.runs.proofs.steps.Goals as goal
 
@@ -10,7 +11,7 @@ pub counts-requires : goal.counts-requires
 counts-requires c = placements_few _ c.requires.built.ready (built_ended _ c.requires.built c.run_on-state.ensures)
 
 pub returns : goal.returns
-returns c L b = ended_ran _ b.ready (built_ended _ b c.run_on-state.ensures) (rw (b.buckets_are, c.counts.ensures) at c.accepted_run.ensures)
+returns c L b = ended_ran _ b.ready (built_ended _ b c.run_on-state.ensures) (rw (sym b.buckets_are, c.counts.ensures) refl)
 
 pub overflow_sub-slots : goal.overflow_sub-slots
 overflow_sub-slots c = omega (arith, built_two _ c.requires.built)

@@ -1,6 +1,10 @@
+use Prim.Native.Nat.{ℕ}
 use native.Mathlib.Omega.{arith}
 use mathlib.Core.Path.{sym, ◌∙◌}
-use Rattle.walk.proofs.Walking.{back_source, back_stops, back_misfit, parent_inside, arc_fits, misfit, walks_on, lost_walk, came_back, walked_on}
+use Rattle.std.proofs.Common.{rules}
+use Rattle.std.proofs.lemmas.Result.{err_from_is_err_and}
+use Rattle.walk.proofs.Walking.{back_source, back_stops, back_misfit, parent_inside, arc_fits, misfit, walks_on, lost_walk, GoesOn, came_back_lost, came_back}
+use Rattle.walk.proofs.+walk.Goals.{After-walk}
 use Rattle.walk.proofs.+walk.Goals as goal
 
 pub returns-then-v-source : goal.returns-then-v-source
@@ -26,18 +30,40 @@ overflow_sub-allowed t c = omega (arith, c.if-allowed-eq0.false)
 pub overflow_add-behind : goal.overflow_add-behind
 overflow_add-behind t c = let w = c.requires in omega (arith, w.short, w.table.sound.few_nodes)
 
-pub walk-walked-requires : goal.walk-walked-requires
-walk-walked-requires t c =
+pub walk-requires : goal.walk-requires
+walk-requires t c =
     (omega arith, walks_on c.requires c.tail_of-tail.ensures (omega (arith, c.if-allowed-eq0.false)))
-
-pub write_behind-requires : goal.write_behind-requires
-write_behind-requires t c = came_back _ _ _ c.walk-walked.ensures.answer c.walk-walked.ensures.list
-
-pub returns : goal.returns
-returns t c =
-    let e = walked_on c.requires c.tail_of-tail.result.0 c.if-v-source.false (sym c.leads_to.ensures ∙ c.if-not-leads_to.false) c.tail_of-tail.ensures
-    (omega (arith, c.if-allowed-eq0.false)) _ (c.walk-walked.ensures.answer, c.walk-walked.ensures.list) (c.write_behind.ensures.answer, c.write_behind.ensures.list) in
-    record { answer = e.0; list = e.1 }
 
 pub bounds-parents-v : goal.bounds-parents-v
 bounds-parents-v t c = parent_inside c.requires
+
+-- The parent of v leads on, as far as the call has told.
+goes_on : (t : ℕ) (c : After-walk t) → GoesOn c.requires c.tail_of-tail.result.0
+goes_on t c = record {
+  away = c.if-v-source.false;
+  fits = sym c.leads_to.ensures ∙ c.if-not-leads_to.false;
+  leaves = c.tail_of-tail.ensures;
+  some = omega (arith, c.if-allowed-eq0.false);
+}
+
+pub bounds-route-nodes : goal.bounds-route-nodes
+bounds-route-nodes t c = (came_back c.requires (goes_on t (goal.at.bounds-route-nodes t c).After-walk) _ c.walk.ensures.answer c.walk.ensures.list c.in_ok-nodes.was).0
+
+pub offset_bounds-route-nodes : goal.offset_bounds-route-nodes
+offset_bounds-route-nodes t c = let inside = bounds-route-nodes t c in search rules
+
+pub overflow_add-result : goal.overflow_add-result
+overflow_add-result t c = let inside = bounds-route-nodes t c in search rules
+
+pub returns-in_err-nodes : goal.returns-in_err-nodes
+returns-in_err-nodes t c =
+    let passed_on = err_from_is_err_and c.from_residual.result c.from_residual.ensures.1 in
+    let away = goes_on t (goal.at.returns-in_err-nodes t c).After-walk in
+    let back = came_back_lost c.requires away _ c.walk.ensures.answer c.walk.ensures.list c.in_err-nodes.was in
+    rw (passed_on.1, passed_on.2) (record { answer = back.0; list = back.1 })
+
+pub returns : goal.returns
+returns t c =
+    let away = goes_on t (goal.at.returns t c).After-walk in
+    let back = came_back c.requires away _ c.walk.ensures.answer c.walk.ensures.list c.in_ok-nodes.was in
+    record { answer = back.1; list = back.2 }

@@ -15,5 +15,5 @@ returns c =
     let heads = c.args.heads.now in
     let above : suc (n - 1) ≡ n = omega arith in
     c.limit_check.ensures
-    ∙ same_tests 7 (word_above (n - 1) heads) (λ a. leb n (get_or heads a 0)) 0 (length heads)
+    ∙ same_tests _ (word_above (n - 1) heads) (λ a. leb n (get_or heads a 0)) 0 (length heads)
     (λ a low high. ap (λ (least : ℕ). leb least (get_or heads a 0)) above)

@@ -5,7 +5,4 @@ use Rattle.check_lists.specs.Lists.{least_fault, word_above}
 use Rattle.check_lists.proofs.limits.least_above.Given as goal
 
 abbrev pub invariant-loop-i : goal.invariant-loop-i
-invariant-loop-i l = least_fault l.number (word_above l.limit l.words) l.first (l.last - l.first) ≡ least_fault l.number (word_above l.limit l.words) l.i (l.last - l.i)
-
-abbrev pub decreases-loop-i : goal.decreases-loop-i
-decreases-loop-i l = l.last - l.i
+invariant-loop-i l = least_fault l.kind (word_above l.limit l.words) l.first (l.last - l.first) ≡ least_fault l.kind (word_above l.limit l.words) l.i (l.last - l.i)

@@ -16,12 +16,12 @@ loop-i-init c =
 pub returns-then-start_fails : goal.returns-then-start_fails
 returns-then-start_fails c =
     sym (c.loop-i.invariant
-    ∙ fails_here 6 (start_fails c.args.n _ _) c.loop-i.i (c.args.n + 1) (search rules) (sym c.start_fails.ensures ∙ c.if-start_fails.true))
+    ∙ fails_here _ (start_fails c.args.n _ _) c.loop-i.i (c.args.n + 1) (search rules) (sym c.start_fails.ensures ∙ c.if-start_fails.true))
 
 pub loop-i-preserved : goal.loop-i-preserved
 loop-i-preserved c =
     c.loop-i.invariant
-    ∙ passes_here 6 (start_fails c.args.n _ _) c.loop-i.i (c.args.n + 1) (search rules) (sym c.start_fails.ensures ∙ c.if-start_fails.false)
+    ∙ passes_here _ (start_fails c.args.n _ _) c.loop-i.i (c.args.n + 1) (search rules) (sym c.start_fails.ensures ∙ c.if-start_fails.false)
 
 pub returns : goal.returns
-returns c = sym (c.loop-i.invariant ∙ none_left 6 (start_fails c.args.n _ _) c.loop-i.i (c.args.n + 1) (search rules))
+returns c = sym (c.loop-i.invariant ∙ none_left _ (start_fails c.args.n _ _) c.loop-i.i (c.args.n + 1) (search rules))

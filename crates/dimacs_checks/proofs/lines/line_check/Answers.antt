@@ -13,8 +13,5 @@ pub returns-else-read-arcs : goal.returns-else-read-arcs
 unfolding fault_if first_fault
 returns-else-read-arcs c = c.arc_check.ensures ∙ rw (c.in-RoadArc.is, lt-leb _ _ c.if-read-arcs.false)
 
-pub returns-in-IllFormed : goal.returns-in-IllFormed
-returns-in-IllFormed c = rw c.in-IllFormed.is
-
 pub returns-in-Problem : goal.returns-in-Problem
 returns-in-Problem c = rw c.in-Problem.is

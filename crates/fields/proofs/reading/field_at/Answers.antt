@@ -1,12 +1,7 @@
 -- The tests of the code are those of the definition.
 use mathlib.Core.Path.{sym, ◌∙◌}
-use native.Mathlib.Omega.{arith}
-use lib.ListN.{length-drop}
 use Rattle.fields.proofs.Formed.{formed_at, formed_field, formless_field}
 use Rattle.fields.proofs.reading.field_at.Goals as goal
-
-pub overflow_add-at : goal.overflow_add-at
-overflow_add-at c = omega (arith, c.digits_at-read.ensures.within, length-drop c.args.at c.args.bytes.now)
 
 pub returns-then-count-alone : goal.returns-then-count-alone
 returns-then-count-alone c =
@@ -17,6 +12,3 @@ pub returns-else-count-alone : goal.returns-else-count-alone
 returns-else-count-alone c =
     formless_field c.digits_at-read.ensures c.args.end
     (sym (formed_at c.args.bytes.now _ _ _ _ _ c.byte_at.ensures c.byte_at-2.ensures) ∙ c.if-count-alone.false)
-
-pub overflow_add-result : goal.overflow_add-result
-overflow_add-result c = omega (arith, c.digits_at-read.ensures.within, length-drop c.args.at c.args.bytes.now)

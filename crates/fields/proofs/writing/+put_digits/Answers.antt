@@ -2,12 +2,9 @@
 use mathlib.Core.Path.{sym}
 use Prim.Native.Nat.{◌≤◌}
 use native.Mathlib.Omega.{arith}
-use Rattle.fields.proofs.Decimals.{decimal_tenth, decimal_tenth_length, decimal_least}
+use Rattle.fields.proofs.Decimals.{decimal_tenth, decimal_tenth_length}
 use Rattle.fields.proofs.Written.{writes_same, writes_then}
 use Rattle.fields.proofs.writing.+put_digits.Goals as goal
-
-pub put_byte-requires : goal.put_byte-requires
-put_byte-requires t c = omega (arith, decimal_least c.args.value)
 
 pub put_digits-last-requires : goal.put_digits-last-requires
 put_digits-last-requires t c =

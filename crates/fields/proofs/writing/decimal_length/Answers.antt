@@ -3,9 +3,6 @@ use native.Mathlib.Omega.{arith}
 use Rattle.fields.proofs.Decimals.{one_digit_length, decimal_least, decimal_most, decimal_tenth_length}
 use Rattle.fields.proofs.writing.decimal_length.Goals as goal
 
-pub loop-rest-init : goal.loop-rest-init
-loop-rest-init c = (omega arith, c.ranges.value.fits)
-
 pub overflow_add-length : goal.overflow_add-length
 overflow_add-length c = omega (arith, c.loop-rest.invariant.0, decimal_least c.loop-rest.rest, decimal_most c.args.value)
 

@@ -11,15 +11,15 @@ returns-in_default c = hold_missing c.loop-v.invariant c.loop-v-test.true (sym c
 
 pub returns-then-hold-ceiling : goal.returns-then-hold-ceiling
 returns-then-hold-ceiling c =
-    hold_fails c.loop-v.invariant c.loop-v-test.true (sym c.in-HoldRead.ensures) c.if-hold-ceiling.true
+    hold_fails c.loop-v.invariant c.loop-v-test.true (sym c.in-Some.ensures) c.if-hold-ceiling.true
 
 pub overflow_add-line : goal.overflow_add-line
 overflow_add-line c =
-    omega (arith, next_within c.args.bytes.now c.loop-v.line c.loop-v.invariant.reached.within (hold_line_lem _ (sym c.in-HoldRead.ensures)))
+    omega (arith, next_within c.args.bytes.now c.loop-v.line c.loop-v.invariant.reached.within (hold_line_lem _ (sym c.in-Some.ensures)))
 
 pub loop-v-preserved : goal.loop-v-preserved
 loop-v-preserved c =
-    lines_next c.loop-v.invariant c.loop-v-test.true (sym c.in-HoldRead.ensures) c.if-hold-ceiling.false
+    lines_next c.loop-v.invariant c.loop-v-test.true (sym c.in-Some.ensures) c.if-hold-ceiling.false
 
 pub returns : goal.returns
 returns c = lines_passed c.loop-v.invariant c.loop-v-test.false

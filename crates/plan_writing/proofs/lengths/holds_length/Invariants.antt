@@ -1,12 +1,8 @@
--- The lines of the first v holds are counted.
-use Prim.Native.Nat.{◌-◌, ◌≤◌}
+-- The lines of the first holds are counted.
 use mathlib.Core.Path.{◌≡◌}
 use lib.ListN.{length, take}
 use Rattle.plan_text.specs.Rendering.{render_holds}
 use Rattle.plan_writing.proofs.lengths.holds_length.Given as goal
 
-abbrev pub invariant-loop-v : goal.invariant-loop-v
-invariant-loop-v l = (l.v ≤ length l.holds) × (l.total ≡ length (render_holds (take l.v l.holds)))
-
-abbrev pub decreases-loop-v : goal.decreases-loop-v
-decreases-loop-v l = length l.holds - l.v
+abbrev pub invariant-loop-hold : goal.invariant-loop-hold
+invariant-loop-hold l = l.total ≡ length (render_holds (take l.hold-index l.holds))

@@ -8,25 +8,25 @@ use Rattle.reader.proofs.filling.fill.Goals as goal
 
 pub overflow_cast-end : goal.overflow_cast-end
 overflow_cast-end c =
-    omega (arith, (shown c.loop-i.invariant c.loop-i-test.true (sym c.in-ArcRead.ensures)).tail_node)
+    omega (arith, (shown c.loop-i.invariant c.loop-i-test.true (sym c.in-Some.ensures)).tail_node)
 
 pub overflow_add-end : goal.overflow_add-end
 overflow_add-end c =
-    omega (arith, (shown c.loop-i.invariant c.loop-i-test.true (sym c.in-ArcRead.ensures)).tail_node)
+    omega (arith, (shown c.loop-i.invariant c.loop-i-test.true (sym c.in-Some.ensures)).tail_node)
 
 pub fill_between-requires : goal.fill_between-requires
 fill_between-requires c =
-    let tail_fits = (shown c.loop-i.invariant c.loop-i-test.true (sym c.in-ArcRead.ensures)).tail_node in
+    let tail_fits = (shown c.loop-i.invariant c.loop-i-test.true (sym c.in-Some.ensures)).tail_node in
     let p = c.loop-i.invariant in
-    (next_not_past p c.loop-i-test.true (sym c.in-ArcRead.ensures), omega (arith, tail_fits, starts_same_length p, p.given.starts_fit))
+    (next_not_past p c.loop-i-test.true (sym c.in-Some.ensures), omega (arith, tail_fits, starts_same_length p, p.given.starts_fit))
 
 pub overflow_add-line : goal.overflow_add-line
 overflow_add-line c =
-    omega (arith, next_within c.args.bytes.now c.loop-i.line c.loop-i.invariant.reached.within (arc_line_lem _ (sym c.in-ArcRead.ensures)))
+    omega (arith, next_within c.args.bytes.now c.loop-i.line c.loop-i.invariant.reached.within (arc_line_lem _ (sym c.in-Some.ensures)))
 
 pub loop-i-preserved : goal.loop-i-preserved
 loop-i-preserved c =
-    rw c.fill_between.ensures (progress_next c.loop-i.invariant c.loop-i-test.true (sym c.in-ArcRead.ensures))
+    rw c.fill_between.ensures (progress_next c.loop-i.invariant c.loop-i-test.true (sym c.in-Some.ensures))
 
 pub fill_between-requires-2 : goal.fill_between-requires-2
 fill_between-requires-2 c =

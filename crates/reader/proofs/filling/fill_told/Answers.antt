@@ -8,11 +8,11 @@ use Rattle.reader.proofs.filling.fill_told.Goals as goal
 
 pub overflow_add-line : goal.overflow_add-line
 overflow_add-line c =
-    omega (arith, next_within c.args.bytes.now c.loop-v.line c.loop-v.invariant.reached.within (hold_line_lem _ (sym c.in-HoldRead.ensures)))
+    omega (arith, next_within c.args.bytes.now c.loop-v.line c.loop-v.invariant.reached.within (hold_line_lem _ (sym c.in-Some.ensures)))
 
 pub loop-v-preserved : goal.loop-v-preserved
 loop-v-preserved c =
-    hold_next c.loop-v.invariant c.loop-v-test.true (sym c.in-HoldRead.ensures)
+    hold_next c.loop-v.invariant c.loop-v-test.true (sym c.in-Some.ensures)
 
 pub returns : goal.returns
 returns c = holds_end c.loop-v.invariant c.loop-v-test.false

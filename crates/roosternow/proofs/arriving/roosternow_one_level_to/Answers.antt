@@ -2,4 +2,4 @@
 use Rattle.roosternow.proofs.arriving.roosternow_one_level_to.Goals as goal
 
 pub returns : goal.returns
-returns c = record { answer = c.one_level_to-one.result; promised = c.one_level_to-one.ensures; numbers = c.run_words.ensures }
+returns c = record { answer = c.run_to-one.result; promised = c.run_to-one.ensures; numbers = c.run_words.ensures }

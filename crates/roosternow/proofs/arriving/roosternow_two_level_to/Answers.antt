@@ -2,4 +2,4 @@
 use Rattle.roosternow.proofs.arriving.roosternow_two_level_to.Goals as goal
 
 pub returns : goal.returns
-returns c = record { answer = c.two_level_to-two.result; promised = c.two_level_to-two.ensures; numbers = c.run_words.ensures }
+returns c = record { answer = c.run_to-two.result; promised = c.run_to-two.ensures; numbers = c.run_words.ensures }

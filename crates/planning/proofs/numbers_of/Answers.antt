@@ -1,9 +1,0 @@
--- `planning::numbers_of` meets its contract.
-use mathlib.Core.Path.{refl}
-use Rattle.planning.proofs.numbers_of.Goals as goal
-
-pub returns-in-Accepted : goal.returns-in-Accepted
-returns-in-Accepted c = rw c.in-Accepted.is refl
-
-pub returns-in-Refused : goal.returns-in-Refused
-returns-in-Refused c = rw c.in-Refused.is refl

@@ -1,6 +1,0 @@
--- The measure: the arcs left.
-use Rattle.std.proofs.Common.{◌-◌}
-use Rattle.test_reference_files.proofs.holds.first_above.Given as goal
-
-abbrev pub decreases-loop-arc : goal.decreases-loop-arc
-decreases-loop-arc l = l.end - l.arc

@@ -1,6 +1,0 @@
--- The measure: the nodes left.
-use Rattle.std.proofs.Common.{◌-◌}
-use Rattle.test_reference_files.proofs.planfile.print_nodes.Given as goal
-
-abbrev pub decreases-loop-v : goal.decreases-loop-v
-decreases-loop-v l = l.n - l.v

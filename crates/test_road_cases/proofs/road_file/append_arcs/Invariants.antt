@@ -1,9 +1,0 @@
--- The invariant: the file keeps its length. The measure: the arcs left.
-use Rattle.std.proofs.Common.{◌≡◌, ◌-◌, length}
-use Rattle.test_road_cases.proofs.road_file.append_arcs.Given as goal
-
-abbrev pub invariant-loop-i : goal.invariant-loop-i
-invariant-loop-i l = length l.file ≡ length l.initial.file
-
-abbrev pub decreases-loop-i : goal.decreases-loop-i
-decreases-loop-i l = l.count - l.i

@@ -1,6 +1,0 @@
--- The measure: the words left.
-use Rattle.std.proofs.Common.{◌-◌, length}
-use Rattle.test_rows.proofs.printing.print_words.Given as goal
-
-abbrev pub decreases-loop-i : goal.decreases-loop-i
-decreases-loop-i g l = length l.list - l.i
