@@ -3,11 +3,24 @@
 
 ghost use Rattle.std.specs.Prelude.{◌≡◌};
 ghost use Rattle.checks.specs.Checks.{first_fault, lent_checks, map_lists, file_lists, size_checks, lists_checks, map_checks, run_lists, levels_checks, run_checks, lengths_for};
-ghost use Rattle.theory.specs.Runs.{inputs, work_words};
+ghost use Rattle.theory.specs.Runs.{work_words};
+ghost use Rattle.checks.specs.Given.{inputs_of};
 
 use check_lists::{limits, starts};
 use model::{Fault, Node};
 use theory::Levels;
+
+// What a call is given: a map, its ceiling and source (document 01, "What the planner holds and leaves out").
+#[derive(Clone, Copy)]
+pub struct Given<'a> {
+    pub nodes: u32,
+    pub ceiling: u32,
+    pub source: Node,
+    pub starts: &'a [u32],
+    pub heads: &'a [u32],
+    pub costs: &'a [u32],
+    pub holds: &'a [u32],
+}
 
 #[tactic(auto, unfolding(crate::specs::Checks::first_fault, crate::specs::Checks::size_checks))]
 fn size_check(
@@ -28,39 +41,34 @@ fn size_check(
 }
 
 // The words are read only once the sizes have passed: number 6 reads n + 1 starts.
-pub fn lists_check(
-    n: u32,
-    ceiling: u32,
-    source: Node,
-    starts: &[u32],
-    heads: &[u32],
-    costs: &[u32],
-    holds: &[u32],
-) -> Result<(), Fault>
-    ensures { result ≡ first_fault (lists_checks (inputs n ceiling source.0 starts.now heads.now costs.now
-        holds.now)) }
+pub fn lists_check<'a>(given: Given<'a>) -> Result<(), Fault>
+    ensures { result ≡ first_fault (lists_checks (inputs_of given.entry)) }
 {
-    size_check(n, ceiling, source, starts.len(), heads.len(), costs.len())?;
-    starts::starts_check(n, heads.len(), starts)?;
-    limits::holds_check(n, ceiling, holds)?;
-    limits::heads_check(n, heads)
+    size_check(
+        given.nodes,
+        given.ceiling,
+        given.source,
+        given.starts.len(),
+        given.heads.len(),
+        given.costs.len(),
+    )?;
+    starts::starts_check(given.nodes, given.heads.len(), given.starts)?;
+    limits::holds_check(given.nodes, given.ceiling, given.holds)?;
+    limits::heads_check(given.nodes, given.heads)
 }
 
 // Sums are looked at only once the lists have passed: a tail is found by its starts, and what a hold leaves of the ceiling needs 20.
-pub fn map_check(
-    n: u32,
-    ceiling: u32,
-    source: Node,
-    starts: &[u32],
-    heads: &[u32],
-    costs: &[u32],
-    holds: &[u32],
-) -> Result<(), Fault>
-    ensures { result ≡ first_fault (map_checks (inputs n ceiling source.0 starts.now heads.now costs.now
-        holds.now)) }
+pub fn map_check<'a>(given: Given<'a>) -> Result<(), Fault>
+    ensures { result ≡ first_fault (map_checks (inputs_of given.entry)) }
 {
-    lists_check(n, ceiling, source, starts, heads, costs, holds)?;
-    check_sums::sums_check(n, ceiling, starts, costs, holds)
+    lists_check(given)?;
+    check_sums::sums_check(
+        given.nodes,
+        given.ceiling,
+        given.starts,
+        given.costs,
+        given.holds,
+    )
 }
 
 // For every reader, which fills starts, heads and costs.
@@ -135,24 +143,18 @@ pub fn work_words(levels: Levels, n: u32) -> usize
     4 * n as usize + fixed
 }
 
-pub fn run_check(
+pub fn run_check<'a>(
     levels: Levels,
-    n: u32,
-    ceiling: u32,
-    source: Node,
-    starts: &[u32],
-    heads: &[u32],
-    costs: &[u32],
-    holds: &[u32],
+    given: Given<'a>,
     distances: usize,
     parents: usize,
     roster: usize,
     work: usize,
 ) -> Result<(), Fault>
-    ensures { result ≡ first_fault (run_checks levels (inputs n ceiling source.0 starts.now heads.now costs.now
-        holds.now) (lengths_for distances parents roster work)) }
+    ensures { result ≡ first_fault (run_checks levels (inputs_of given.entry) (lengths_for distances parents roster work)) }
 {
-    map_check(n, ceiling, source, starts, heads, costs, holds)?;
+    map_check(given)?;
     levels_check(levels)?;
-    run_lists_check(n, distances, parents, roster, work, work_words(levels, n))
+    let needed = work_words(levels, given.nodes);
+    run_lists_check(given.nodes, distances, parents, roster, work, needed)
 }

@@ -8,6 +8,7 @@ ghost use Rattle.plan_text.specs.Files.{plan_file};
 ghost use Rattle.writer.specs.Promise.{write_checks};
 ghost use Rattle.conversion.specs.Conversion.{text_or_refusal, ConversionPromised, ConversionLends, front_inputs, FrontFits};
 
+use checks::Given;
 use dimacs::RoadSize;
 use model::{Fault, Kind, Node};
 
@@ -33,18 +34,16 @@ fn write_front(
     let n = nodes as usize;
     let m = arcs as usize;
     let holds = [0u32; 512];
-    let answer = writer::write(
+    let given = Given {
         nodes,
         ceiling,
         source,
-        segments,
-        &starts[..n + 1],
-        &heads[..m],
-        &costs[..m],
-        &holds[..n],
-        output,
-    );
-    match answer {
+        starts: &starts[..n + 1],
+        heads: &heads[..m],
+        costs: &costs[..m],
+        holds: &holds[..n],
+    };
+    match writer::write(given, segments, output) {
         Ok(length) => length,
         Err(fault) => report::write_refusal(output, fault),
     }

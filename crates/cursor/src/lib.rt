@@ -23,26 +23,28 @@ pub struct Cursor<'a> {
     pub at: usize,
 }
 
-pub fn new<'a>(bytes: &'a [u8], at: usize) -> Cursor<'a>
-    ensures { (result.bytes ≡ bytes.entry) × (result.at ≡ at) }
-{
-    Cursor { bytes, at }
-}
+impl<'a> Cursor<'a> {
+    pub fn new(bytes: &'a [u8], at: usize) -> Self
+        ensures { (result.bytes ≡ bytes.entry) × (result.at ≡ at) }
+    {
+        Cursor { bytes, at }
+    }
 
-// The line of so many fields, at most seven.
-pub fn numbers_of<'a>(cursor: Cursor<'a>, count: usize) -> Option<LineNumbers>
-    requires { (cursor.at ≤ length cursor.bytes.now) × ((1 ≤ count) × (count ≤ 7)) }
-    ensures { result ≡ line_numbers count (unread cursor.entry) }
-{
-    read_numbers(cursor.bytes, cursor.at, count)
-}
+    // The line of so many fields, at most seven.
+    pub fn numbers(self, count: usize) -> Option<LineNumbers>
+        requires { (self.at ≤ length self.bytes.now) × ((1 ≤ count) × (count ≤ 7)) }
+        ensures { result ≡ line_numbers count (unread self.entry) }
+    {
+        read_numbers(self.bytes, self.at, count)
+    }
 
-// How many bytes are left over.
-pub fn left_over<'a>(cursor: Cursor<'a>) -> usize
-    requires { cursor.at ≤ length cursor.bytes.now }
-    ensures { result ≡ length (unread cursor.entry) }
-{
-    cursor.bytes.len() - cursor.at
+    // How many bytes are left over.
+    pub fn left_over(self) -> usize
+        requires { self.at ≤ length self.bytes.now }
+        ensures { result ≡ length (unread self.entry) }
+    {
+        self.bytes.len() - self.at
+    }
 }
 
 // Between two lines the passes keep the place as a number. They read by the two functions below, which need no cursor of their callers.
@@ -50,12 +52,12 @@ pub fn numbers_at(bytes: &[u8], at: usize, count: usize) -> Option<LineNumbers>
     requires { (at ≤ length bytes.now) × ((1 ≤ count) × (count ≤ 7)) }
     ensures { result ≡ line_numbers count (drop at bytes.now) }
 {
-    numbers_of(new(bytes, at), count)
+    Cursor::new(bytes, at).numbers(count)
 }
 
 pub fn left_over_at(bytes: &[u8], at: usize) -> usize
     requires { at ≤ length bytes.now }
     ensures { result ≡ length (drop at bytes.now) }
 {
-    left_over(new(bytes, at))
+    Cursor::new(bytes, at).left_over()
 }

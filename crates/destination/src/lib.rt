@@ -3,24 +3,19 @@
 #![tactic(auto)]
 
 ghost use Rattle.std.specs.Prelude.{Ok};
-ghost use Rattle.theory.specs.Runs.{inputs};
+ghost use Rattle.checks.specs.Given.{inputs_of};
 ghost use Rattle.destination_checks.specs.Destination.{ReadyTo};
 ghost use Rattle.destination.specs.Promise.{RanTo, PromisedTo, lent_to, lengths_to};
 
-use model::{Fault, Node, Run};
+use checks::Given;
+use model::{Fault, Run};
 use theory::Levels;
 
 // The run to a destination, of inputs and lists that have passed the checks: the reversed map is built and run on, and its arcs in the parents
 // get their old numbers.
-fn run_back(
+fn run_back<'a>(
     levels: Levels,
-    n: u32,
-    ceiling: u32,
-    destination: Node,
-    starts: &[u32],
-    heads: &[u32],
-    costs: &[u32],
-    holds: &[u32],
+    given: Given<'a>,
     distances: &mut [u32],
     parents: &mut [u32],
     roster: &mut [u32],
@@ -30,54 +25,41 @@ fn run_back(
     reversed_costs: &mut [u32],
     old_arcs: &mut [u32],
 ) -> Run
-    requires { ReadyTo levels (inputs n ceiling destination.0 starts.now heads.now costs.now holds.now)
+    requires { ReadyTo levels (inputs_of given)
         (lengths_to (lent_to distances.old parents.old roster.old work.old reversed_starts.old reversed_heads.old reversed_costs.old
         old_arcs.old)) }
-    ensures { RanTo levels (inputs n ceiling destination.0 starts.now heads.now costs.now holds.now) (Ok tt) (Ok result)
+    ensures { RanTo levels (inputs_of given.entry) (Ok tt) (Ok result)
         (lent_to distances.old parents.old roster.old work.old reversed_starts.old reversed_heads.old
         reversed_costs.old old_arcs.old)
         (lent_to distances.new parents.new roster.new work.new reversed_starts.new reversed_heads.new
         reversed_costs.new old_arcs.new) }
 {
-    let nodes = n as usize;
-    let arcs = heads.len();
+    let nodes = given.nodes as usize;
+    let arcs = given.heads.len();
     reversing::reverse(
-        n,
-        starts,
-        heads,
-        costs,
+        given.nodes,
+        given.starts,
+        given.heads,
+        given.costs,
         reversed_starts,
         reversed_heads,
         reversed_costs,
         old_arcs,
     );
-    let run = runs::run_steps(
-        levels,
-        n,
-        ceiling,
-        destination,
-        &reversed_starts[..nodes + 1],
-        &reversed_heads[..arcs],
-        &reversed_costs[..arcs],
-        holds,
-        distances,
-        parents,
-        roster,
-        work,
-    );
+    let back = Given {
+        starts: &reversed_starts[..nodes + 1],
+        heads: &reversed_heads[..arcs],
+        costs: &reversed_costs[..arcs],
+        ..given
+    };
+    let run = runs::run_steps(levels, back, distances, parents, roster, work);
     reversing::rename(&mut parents[..nodes], &old_arcs[..arcs]);
     run
 }
 
-pub fn run_to(
+pub fn run_to<'a>(
     levels: Levels,
-    n: u32,
-    ceiling: u32,
-    destination: Node,
-    starts: &[u32],
-    heads: &[u32],
-    costs: &[u32],
-    holds: &[u32],
+    given: Given<'a>,
     distances: &mut [u32],
     parents: &mut [u32],
     roster: &mut [u32],
@@ -87,7 +69,7 @@ pub fn run_to(
     reversed_costs: &mut [u32],
     old_arcs: &mut [u32],
 ) -> Result<Run, Fault>
-    ensures { PromisedTo levels (inputs n ceiling destination.0 starts.now heads.now costs.now holds.now) result
+    ensures { PromisedTo levels (inputs_of given.entry) result
         (lent_to distances.old parents.old roster.old work.old reversed_starts.old reversed_heads.old
         reversed_costs.old old_arcs.old)
         (lent_to distances.new parents.new roster.new work.new reversed_starts.new reversed_heads.new
@@ -95,13 +77,7 @@ pub fn run_to(
 {
     destination_checks::run_check_to(
         levels,
-        n,
-        ceiling,
-        destination,
-        starts,
-        heads,
-        costs,
-        holds,
+        given,
         distances.len(),
         parents.len(),
         roster.len(),
@@ -113,13 +89,7 @@ pub fn run_to(
     )?;
     Ok(run_back(
         levels,
-        n,
-        ceiling,
-        destination,
-        starts,
-        heads,
-        costs,
-        holds,
+        given,
         distances,
         parents,
         roster,

@@ -2,14 +2,15 @@
 #![tactic(auto)]
 
 ghost use Rattle.std.specs.Prelude.{◌≡◌, get_or};
-ghost use Rattle.theory.specs.Runs.{inputs};
 ghost use Rattle.check_sums.specs.Sums.{sums_check};
 ghost use Rattle.checks.specs.Checks.{first_fault, lent_checks, summed_checks};
+ghost use Rattle.checks.specs.Given.{inputs_of};
 ghost use Rattle.destination_checks.specs.Destination.{head_sums_check, SummableTo, reversed_lists, checks_to, lengths_to_for};
 
 use check_lists::limits::any_above;
 use check_sums::greatest;
-use model::{Fault, Kind, Node};
+use checks::Given;
+use model::{Fault, Kind};
 use theory::Levels;
 
 // One pass over the costs settles a map in which no cost is above what the greatest hold leaves; only in others are the heads looked up.
@@ -43,21 +44,11 @@ fn least_head_sum(ceiling: u32, heads: &[u32], costs: &[u32], holds: &[u32]) -> 
 }
 
 // As `checks::map_check`, with the holds of heads: sums are looked at only once the lists have passed, since a head is read as a node.
-fn map_check(
-    n: u32,
-    ceiling: u32,
-    destination: Node,
-    starts: &[u32],
-    heads: &[u32],
-    costs: &[u32],
-    holds: &[u32],
-) -> Result<(), Fault>
-    ensures { result ≡ first_fault (summed_checks (inputs n ceiling destination.0 starts.now heads.now costs.now
-        holds.now) (head_sums_check (inputs n ceiling destination.0 starts.now heads.now
-        costs.now holds.now))) }
+fn map_check<'a>(given: Given<'a>) -> Result<(), Fault>
+    ensures { result ≡ first_fault (summed_checks (inputs_of given.entry) (head_sums_check (inputs_of given.entry))) }
 {
-    checks::lists_check(n, ceiling, destination, starts, heads, costs, holds)?;
-    head_sums_check(ceiling, heads, costs, holds)
+    checks::lists_check(given)?;
+    head_sums_check(given.ceiling, given.heads, given.costs, given.holds)
 }
 
 #[tactic(auto, unfolding(checks::specs::Checks::first_fault, checks::specs::Checks::lent_checks))]
@@ -77,15 +68,9 @@ fn reversed_lists_check(
     check_numbers::lent_check(7, old_arcs, arcs)
 }
 
-pub fn run_check_to(
+pub fn run_check_to<'a>(
     levels: Levels,
-    n: u32,
-    ceiling: u32,
-    destination: Node,
-    starts: &[u32],
-    heads: &[u32],
-    costs: &[u32],
-    holds: &[u32],
+    given: Given<'a>,
     distances: usize,
     parents: usize,
     roster: usize,
@@ -95,16 +80,16 @@ pub fn run_check_to(
     reversed_costs: usize,
     old_arcs: usize,
 ) -> Result<(), Fault>
-    ensures { result ≡ first_fault (checks_to levels (inputs n ceiling destination.0 starts.now heads.now costs.now
-        holds.now) (lengths_to_for distances parents roster work reversed_starts reversed_heads reversed_costs old_arcs)) }
+    ensures { result ≡ first_fault (checks_to levels (inputs_of given.entry)
+        (lengths_to_for distances parents roster work reversed_starts reversed_heads reversed_costs old_arcs)) }
 {
-    map_check(n, ceiling, destination, starts, heads, costs, holds)?;
+    map_check(given)?;
     checks::levels_check(levels)?;
-    let needed = checks::work_words(levels, n);
-    checks::run_lists_check(n, distances, parents, roster, work, needed)?;
+    let needed = checks::work_words(levels, given.nodes);
+    checks::run_lists_check(given.nodes, distances, parents, roster, work, needed)?;
     reversed_lists_check(
-        n,
-        heads.len(),
+        given.nodes,
+        given.heads.len(),
         reversed_starts,
         reversed_heads,
         reversed_costs,

@@ -9,6 +9,7 @@ ghost use Rattle.fields.specs.Writing.{Writes};
 ghost use Rattle.planning.specs.Planning.{plan_lists, map_inputs, MapRunnable};
 ghost use Rattle.itineraries.specs.Itineraries.{route_line, line_if_reached, route_lines, nodes_to, words_if_reached, route_fields, behind_commas, line_bytes, Few, Routable, AllRoutable, ListLends, RunListed, ItinerariesPromised};
 
+use checks::Given;
 use fields::writing::{put_byte, put_field, put_number};
 use model::{Fault, Kind, Node};
 use reader::PlanHeader;
@@ -136,30 +137,22 @@ fn list_map(
 {
     let n = header.nodes as usize;
     let m = header.arcs as usize;
-    let map_starts = &starts[..n + 1];
-    let map_heads = &heads[..m];
-    let map_costs = &costs[..m];
-    let map_holds = &holds[..n];
-    let run = runs::run(
-        Levels::One,
-        header.nodes,
-        header.ceiling,
-        header.source,
-        map_starts,
-        map_heads,
-        map_costs,
-        map_holds,
-        distances,
-        parents,
-        roster,
-        work,
-    );
+    let given = Given {
+        nodes: header.nodes,
+        ceiling: header.ceiling,
+        source: header.source,
+        starts: &starts[..n + 1],
+        heads: &heads[..m],
+        costs: &costs[..m],
+        holds: &holds[..n],
+    };
+    let run = runs::run(Levels::One, given, distances, parents, roster, work);
     match run {
         Ok(_) => write_routes(
             header.nodes,
             header.source,
-            map_starts,
-            map_heads,
+            given.starts,
+            given.heads,
             distances,
             parents,
             route,

@@ -1,5 +1,5 @@
 -- The checks of a planning file, in order (document 01, "What a call returns"; document 02, paper 2).
-use Rattle.std.specs.Prelude.{ℕ, zero, suc, ◌+◌, ◌≤◌, ◌||◌, ◌≡◌, List, [], ◌∷◌, ◌++◌, ltb, leb, length, drop, Option, None, Some, Result, Ok, Err}
+use Rattle.std.specs.Prelude.{ℕ, zero, suc, ◌+◌, ◌≤◌, Bool, ◌||◌, ◌≡◌, List, [], ◌∷◌, ◌++◌, ltb, leb, length, drop, Option, None, Some, Result, Ok, Err}
 use Rattle.model.specs.Answers.{Check, fault_of}
 use Rattle.model.specs.declared.Fault.{Fault}
 use Rattle.model.specs.declared.Kind.TheVariants.{Head, Cost, PlanLine, Tail, Hold}
@@ -82,7 +82,7 @@ hold_lines_check C m (suc left) v bytes =
 
 -- Behind the lines of the arcs: the lines of the holds, where line 1 says that holds are told, left-over bytes, then 8 of each cost together
 -- with the tail's hold (document 02, paper 2).
-unfoldable pub behind_checks : (n m C held : ℕ) → List PlanArc → List ℕ → List Check
+unfoldable pub behind_checks : (n m C : ℕ) (held : Bool) → List PlanArc → List ℕ → List Check
 behind_checks n m C held arcs bytes =
     let lines = held_lines held n in
     hold_lines_check C m lines 0 bytes
@@ -91,7 +91,7 @@ behind_checks n m C held arcs bytes =
     ∷ []
 
 -- Behind line 1: the lines of the arcs, then what is behind them (document 01, "What a call returns"; document 02, paper 2).
-unfoldable pub lines_checks : (n m C held : ℕ) → List ℕ → List Check
+unfoldable pub lines_checks : (n m C : ℕ) (held : Bool) → List ℕ → List Check
 lines_checks n m C held bytes = arcs_check n C m 0 0 bytes ∷ behind_checks n m C held (lines_arcs m bytes) (behind_arcs m bytes)
 
 -- Line 1 by 1, 4, 2, 3, 9, 10 (document 01, "What a call returns"; document 02, paper 2).

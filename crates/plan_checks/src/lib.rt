@@ -1,7 +1,7 @@
 // The checks of a planning file in their order; no word is written here (document 01, "What a call returns"; document 02, paper 2).
 #![tactic(auto)]
 
-ghost use Rattle.std.specs.Prelude.{◌≡◌, ◌++◌, ◌≤◌, length, drop};
+ghost use Rattle.std.specs.Prelude.{◌≡◌, ◌++◌, ◌≤◌, true, length, drop};
 ghost use Rattle.checks.specs.Checks.{first_fault};
 ghost use Rattle.plan_lines.specs.Told.{lines_arcs};
 ghost use Rattle.plan_checks.specs.Checking.{left_over_check, behind_checks, lines_checks, header_checks, ArcsPassed};
@@ -22,7 +22,7 @@ pub fn plan_check(
     ceiling: u32,
     source: Node,
     segments: u32,
-    held: u32,
+    held: bool,
     starts: usize,
     heads: usize,
     costs: usize,
@@ -66,16 +66,16 @@ fn lines_check(
     n: u32,
     arcs: u32,
     ceiling: u32,
-    held: u32,
+    held: bool,
 ) -> Result<(), Fault>
     requires { at ≤ length bytes.now }
     ensures { result ≡ first_fault (lines_checks n arcs ceiling held (drop at bytes.now)) }
 {
     let behind = arcs::arcs_check(bytes, at, n, arcs, ceiling)?;
-    if held == 0 {
-        left_over_check(bytes, behind, arcs as usize + 2)
-    } else {
+    if held {
         held_check(bytes, at, behind, n, arcs, ceiling)
+    } else {
+        left_over_check(bytes, behind, arcs as usize + 2)
     }
 }
 
@@ -90,7 +90,7 @@ fn held_check(
     ceiling: u32,
 ) -> Result<(), Fault>
     requires { ArcsPassed n arcs ceiling bytes.now at from }
-    ensures { result ≡ first_fault (behind_checks n arcs ceiling 1 (lines_arcs arcs (drop at bytes.now)) (drop from bytes.now)) }
+    ensures { result ≡ first_fault (behind_checks n arcs ceiling true (lines_arcs arcs (drop at bytes.now)) (drop from bytes.now)) }
 {
     let behind = holds::hold_lines_check(bytes, from, n, arcs, ceiling)?;
     left_over_check(bytes, behind, arcs as usize + n as usize + 2)?;

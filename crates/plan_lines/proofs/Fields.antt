@@ -49,12 +49,12 @@ module _ (bytes : List ℕ) where
 -- ---- line 1
 
 module _ (bytes : List ℕ) {line : LineNumbers} where
-  pub five_header : line_numbers 5 bytes ≡ Some line → Some (header_told line 0) ≡ header_line bytes
+  pub five_header : line_numbers 5 bytes ≡ Some line → Some (header_told line false) ≡ header_line bytes
   unfolding header_line
   five_header e = rw e
 
   module _ (e : line_numbers 6 bytes ≡ Some line) where
-    pub six_header : get_or line.numbers 5 0 ≡ 1 → Some (header_told line 1) ≡ held_header_of (line_numbers 6 bytes)
+    pub six_header : get_or line.numbers 5 0 ≡ 1 → Some (header_told line true) ≡ held_header_of (line_numbers 6 bytes)
     six_header one = rw (e, eq-eqb (get_or line.numbers 5 0) 1 one)
 
     pub other_header : (get_or line.numbers 5 0 ≡ 1 → ⊥) → None ≡ held_header_of (line_numbers 6 bytes)
@@ -68,7 +68,7 @@ pub header_within : (bytes : List ℕ) {line : HeaderLine} → header_line bytes
 unfolding header_line
 header_within bytes {line} e = five (line_numbers 5 bytes) refl e
   where
-    chosen : (told : Bool) (found : LineNumbers) → found.taken ≤ length bytes → cond told (Some (header_told found 1)) None ≡ Some line → line.taken ≤ length bytes
+    chosen : (told : Bool) (found : LineNumbers) → found.taken ≤ length bytes → cond told (Some (header_told found true)) None ≡ Some line → line.taken ≤ length bytes
     chosen true found l e = let same : found.taken ≡ line.taken = cc in omega arith
     chosen false found l e = differ (cc)
 

@@ -1,5 +1,5 @@
 -- The three kinds of line of a planning file (document 01, "Planning file"; document 02, paper 2).
-use Rattle.std.specs.Prelude.{ℕ, cond, List, eqb, get_or, Option, None, Some}
+use Rattle.std.specs.Prelude.{ℕ, Bool, true, false, cond, List, eqb, get_or, Option, None, Some}
 use Rattle.cursor.specs.declared.LineNumbers.{LineNumbers}
 use Rattle.cursor.specs.Lines.{line_numbers}
 use Rattle.plan_lines.specs.declared.ArcLine.{ArcLine}
@@ -25,7 +25,7 @@ unfoldable pub hold_line : List ℕ → Option HoldLine
 hold_line bytes = hold_line_of (line_numbers 1 bytes)
 
 -- Line 1's first five numbers, n, m, C, source and K, beside what is told of holds (document 01, "Planning file").
-abbrev pub header_told : LineNumbers → (held : ℕ) → HeaderLine
+abbrev pub header_told : LineNumbers → (held : Bool) → HeaderLine
 header_told line told = record {
   nodes = get_or line.numbers 0 0;
   arcs = get_or line.numbers 1 0;
@@ -39,12 +39,12 @@ header_told line told = record {
 -- Line 1 of six fields: n, m, C, source, K and 1, which says that holds are told (document 02, paper 2).
 abbrev pub held_header_of : Option LineNumbers → Option HeaderLine
 held_header_of None = None
-held_header_of (Some line) = cond (eqb (get_or line.numbers 5 0) 1) (Some (header_told line 1)) None
+held_header_of (Some line) = cond (eqb (get_or line.numbers 5 0) 1) (Some (header_told line true)) None
 
 -- Line 1 of five fields, which tells no holds: n, m, C, source, K (document 01, "Planning file"); else of six (document 02, paper 2).
 abbrev pub header_of : (five six : Option LineNumbers) → Option HeaderLine
 header_of None six = held_header_of six
-header_of (Some line) six = Some (header_told line 0)
+header_of (Some line) six = Some (header_told line false)
 
 -- Line 1, at the front of the bytes (document 01, "Planning file"; document 02, paper 2).
 unfoldable pub header_line : List ℕ → Option HeaderLine

@@ -1,5 +1,5 @@
 -- What the lines behind line 1 tell, and the bytes that they take (document 01, "Planning file"; document 02, paper 2).
-use Rattle.std.specs.Prelude.{ℕ, zero, suc, ◌+◌, List, [], ◌∷◌, drop, replicate, Option, None, Some}
+use Rattle.std.specs.Prelude.{ℕ, zero, suc, ◌+◌, Bool, true, false, List, [], ◌∷◌, drop, replicate, Option, None, Some}
 use Rattle.cursor.specs.declared.LineNumbers.{LineNumbers}
 use Rattle.cursor.specs.Lines.{line_numbers}
 use Rattle.grouping.specs.Arcs.{PlanArc}
@@ -52,11 +52,11 @@ lines_holds zero bytes = []
 lines_holds (suc left) bytes = hold_and_behind (hold_line bytes) (λ taken. lines_holds left (drop taken bytes))
 
 -- The number of hold lines: one for each node, where line 1 says that holds are told (document 02, paper 2).
-abbrev pub held_lines : (held n : ℕ) → ℕ
-held_lines zero n = 0
-held_lines (suc held) n = n
+abbrev pub held_lines : (held : Bool) (n : ℕ) → ℕ
+held_lines false n = 0
+held_lines true n = n
 
 -- A hold for each node: that of its line, and 0 where none are told (document 02, paper 2).
-abbrev pub node_holds : (held n : ℕ) → List ℕ → List ℕ
-node_holds zero n bytes = replicate n 0
-node_holds (suc held) n bytes = lines_holds n bytes
+abbrev pub node_holds : (held : Bool) (n : ℕ) → List ℕ → List ℕ
+node_holds false n bytes = replicate n 0
+node_holds true n bytes = lines_holds n bytes

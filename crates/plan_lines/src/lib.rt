@@ -24,7 +24,7 @@ pub struct HoldLine {
     pub taken: usize,
 }
 
-// Line 1: its first five numbers, 1 in `held` where holds are told and else 0, and the bytes that it takes.
+// Line 1: its first five numbers, whether holds are told, and the bytes that it takes.
 #[derive(Clone, Copy)]
 pub struct HeaderLine {
     pub nodes: u32,
@@ -32,7 +32,7 @@ pub struct HeaderLine {
     pub ceiling: u32,
     pub source: u32,
     pub segments: u32,
-    pub held: u32,
+    pub held: bool,
     pub taken: usize,
 }
 
@@ -70,7 +70,7 @@ pub fn header_line_at(bytes: &[u8], at: usize) -> Option<HeaderLine>
     let Some(line) = numbers_at(bytes, at, 5) else {
         return held_header_at(bytes, at);
     };
-    Some(header_told(line, 0))
+    Some(header_told(line, false))
 }
 
 // Line 1 with a sixth field, which is 1.
@@ -83,10 +83,10 @@ fn held_header_at(bytes: &[u8], at: usize) -> Option<HeaderLine>
     if line.numbers[5] != 1 {
         return None;
     }
-    Some(header_told(line, 1))
+    Some(header_told(line, true))
 }
 
-fn header_told(line: LineNumbers, held: u32) -> HeaderLine
+fn header_told(line: LineNumbers, held: bool) -> HeaderLine
     ensures { result ≡ header_told line held }
 {
     let LineNumbers {

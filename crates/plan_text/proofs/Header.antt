@@ -1,7 +1,7 @@
 -- Line 1 of a rendered planning file is read back, with five fields or with six. Assumes nothing.
 use Prim.Native.Nat.{ℕ, suc, ◌+◌, ◌<◌}
 use native.Mathlib.Omega.{arith}
-use mathlib.Core.Bool.{Bool, true, false, cond}
+use mathlib.Core.Bool.{Bool, true, false, cond, not}
 use mathlib.Core.Path.{◌≡◌, refl, sym, ◌∙◌, ap}
 use mathlib.Core.Logic.{◌≢◌}
 use mathlib.Core.List.{List, [], ◌∷◌, ◌++◌, append_assoc}
@@ -58,7 +58,7 @@ module _ (n m C source K : ℕ) (fit : FitFields (n ∷ m ∷ C ∷ source ∷ K
       (fields_other line_feed comma [] (line_feed ∷ []) refl away (comma ∷ comma ∷ comma ∷ comma ∷ []) (n ∷ m ∷ C ∷ source ∷ K ∷ 1 ∷ []) rest
       (refl, (refl, (refl, (refl, tt)))) (omega arith) (omega arith))
 
-  by_plain : (plain : Bool) → header_line (line_one plain ++ rest) ≡ Some (record { nodes = n; arcs = m; ceiling = C; source = source; segments = K; held = cond plain 0 1; taken = length (line_one plain) })
+  by_plain : (plain : Bool) → header_line (line_one plain ++ rest) ≡ Some (record { nodes = n; arcs = m; ceiling = C; source = source; segments = K; held = not plain; taken = length (line_one plain) })
   by_plain true =
       sym (five_header (line_one true ++ rest) (numbers_rendered (n ∷ m ∷ C ∷ source ∷ K ∷ []) rest fit (omega arith)))
   by_plain false =
@@ -67,5 +67,5 @@ module _ (n m C source K : ℕ) (fit : FitFields (n ∷ m ∷ C ∷ source ∷ K
 
   pub line_one_read : (holds : List ℕ)
       → header_line (render_line comma (header_fields n m C source K holds) ++ rest)
-      ≡ Some (record { nodes = n; arcs = m; ceiling = C; source = source; segments = K; held = cond (all_zero holds) 0 1; taken = length (render_line comma (header_fields n m C source K holds)) })
+      ≡ Some (record { nodes = n; arcs = m; ceiling = C; source = source; segments = K; held = not (all_zero holds); taken = length (render_line comma (header_fields n m C source K holds)) })
   line_one_read holds = by_plain (all_zero holds)

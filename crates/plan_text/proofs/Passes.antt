@@ -2,7 +2,7 @@
 -- checks. Assumes nothing.
 use Prim.Native.Nat.{ℕ, ◌+◌, ◌≤◌, ◌<◌}
 use native.Mathlib.Omega.{arith}
-use mathlib.Core.Bool.{Bool, true, false, cond}
+use mathlib.Core.Bool.{Bool, true, false, cond, not}
 use mathlib.Core.Path.{◌≡◌, refl, sym}
 use mathlib.Core.List.{List, [], ◌∷◌, ◌++◌, append-nil}
 use lib.ListN.{length}
@@ -65,7 +65,7 @@ module _ {n C source K : ℕ} {arcs : List PlanArc} {holds : List ℕ} (r : Plan
   nothing_left = rw (sym r.holds_length, sym (append-nil (render_holds holds))) (behind_holds holds [] held)
 
   lines_pass : (plain : Bool) → all_zero holds ≡ plain
-      → first_fault (lines_checks n (length arcs) C (cond plain 0 1) (render_arcs arcs ++ cond plain [] (render_holds holds))) ≡ Ok tt
+      → first_fault (lines_checks n (length arcs) C (not plain) (render_arcs arcs ++ cond plain [] (render_holds holds))) ≡ Ok tt
   unfolding lines_checks behind_checks hold_lines_check lines_taken
   lines_pass true e =
       rw (arcs_read arcs [] fits, behind_arcs_lem arcs [] fits, held_told holds held r.holds_length true e)

@@ -1,7 +1,7 @@
 -- What was rendered as a planning file is read back: line 1's numbers, the arcs, the holds, and their map. Assumes nothing.
 use Prim.Native.Nat.{ℕ, zero, suc}
 use native.Mathlib.Omega.{arith}
-use mathlib.Core.Bool.{Bool, true, false, cond, ◌&&◌}
+use mathlib.Core.Bool.{Bool, true, false, cond, not, ◌&&◌}
 use mathlib.Core.Path.{◌≡◌, refl, sym, ◌∙◌, ap}
 use mathlib.Core.List.{List, [], ◌∷◌, ◌++◌, append-nil}
 use lib.Dec.{eqb}
@@ -37,7 +37,7 @@ all_zeros (hold ∷ holds) e = go (eqb hold 0) refl e (all_zeros holds)
 
 -- a hold for each node, told or not
 pub held_told : {n : ℕ} (holds : List ℕ) → FitFields holds → length holds ≡ n → (plain : Bool) → all_zero holds ≡ plain
-    → node_holds (cond plain 0 1) n (cond plain [] (render_holds holds)) ≡ holds
+    → node_holds (not plain) n (cond plain [] (render_holds holds)) ≡ holds
 held_told holds held count true e = rw (sym count) (all_zeros holds e)
 held_told holds held count false e = rw (sym count, sym (append-nil (render_holds holds))) (holds_read holds [] held)
 
@@ -58,7 +58,7 @@ module _ (n C source K : ℕ) (arcs : List PlanArc) (holds : List ℕ) where
     ceiling = C;
     source = source;
     segments = K;
-    held = cond (all_zero holds) 0 1;
+    held = not (all_zero holds);
     taken = length line_one;
   })
 

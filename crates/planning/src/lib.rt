@@ -5,6 +5,7 @@ ghost use Rattle.std.specs.Prelude.{◌≡◌, ◌+◌, ◌*◌, ◌≤◌, leng
 ghost use Rattle.fields.specs.Writing.{Writes};
 ghost use Rattle.planning.specs.Planning.{plan_lists, PlanningPromised, PlanLends, runs_text, map_inputs, BothRunnable, BothReturned, BothRun};
 
+use checks::Given;
 use model::{Fault, Kind, Run};
 use reader::PlanHeader;
 use theory::Levels;
@@ -60,41 +61,20 @@ fn run_both(
 {
     let n = header.nodes as usize;
     let m = header.arcs as usize;
-    let map_starts = &starts[..n + 1];
-    let map_heads = &heads[..m];
-    let map_costs = &costs[..m];
-    let map_holds = &holds[..n];
-    let one = runs::run(
-        Levels::One,
-        header.nodes,
-        header.ceiling,
-        header.source,
-        map_starts,
-        map_heads,
-        map_costs,
-        map_holds,
-        distances,
-        parents,
-        roster,
-        work,
-    )?;
+    let given = Given {
+        nodes: header.nodes,
+        ceiling: header.ceiling,
+        source: header.source,
+        starts: &starts[..n + 1],
+        heads: &heads[..m],
+        costs: &costs[..m],
+        holds: &holds[..n],
+    };
+    let one = runs::run(Levels::One, given, distances, parents, roster, work)?;
     let levels = Levels::Two {
         segments: header.segments,
     };
-    let two = runs::run(
-        levels,
-        header.nodes,
-        header.ceiling,
-        header.source,
-        map_starts,
-        map_heads,
-        map_costs,
-        map_holds,
-        distances,
-        parents,
-        roster,
-        work,
-    )?;
+    let two = runs::run(levels, given, distances, parents, roster, work)?;
     Ok(BothRuns { one, two })
 }
 

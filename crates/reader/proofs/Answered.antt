@@ -1,4 +1,5 @@
 -- What the reader promises, from what its two passes give. Assumes nothing.
+use mathlib.Core.Bool.{Bool}
 use mathlib.Core.Path.{◌≡◌, refl}
 use mathlib.Core.List.{List, ◌++◌}
 use Prim.Native.Nat.{ℕ, ◌+◌, ◌≤◌}
@@ -40,7 +41,7 @@ file_answered bytes starts heads costs holds e A = rw e A
 
 -- ---- a file that passes its checks
 
-module _ (n m C K held at : ℕ) (source : Node) (bytes starts heads costs holds : List ℕ) where
+module _ (n m C K : ℕ) (held : Bool) (at : ℕ) (source : Node) (bytes starts heads costs holds : List ℕ) where
   -- What the second pass is given: the arcs' lists, and the list of holds from the place behind the arcs' lines on.
   pub record PlanFillable : Type 0 where
     pub arcs : Fillable n m bytes at starts heads costs

@@ -1,7 +1,8 @@
 -- The holds: zeros where none are told, else how far they have been filled from their lines. Assumes nothing.
+use mathlib.Core.Bool.{Bool, true, false}
 use mathlib.Core.Path.{◌≡◌, refl, sym, ◌∙◌, ap}
 use mathlib.Core.List.{List, [], ◌∷◌, ◌++◌, append_assoc, append-nil}
-use Prim.Native.Nat.{ℕ, zero, suc, ◌+◌, ◌-◌, ◌≤◌, ◌<◌}
+use Prim.Native.Nat.{ℕ, suc, ◌+◌, ◌-◌, ◌≤◌, ◌<◌}
 use native.Mathlib.Nat.{sub-zero}
 use native.Mathlib.Numerals.{add-one}
 use native.Mathlib.Omega.{arith}
@@ -20,32 +21,24 @@ use Rattle.reader.proofs.Lists.{filled_next, filled_length, filled_end}
 -- ---- told or not
 
 -- Holds of 0 stand at the front of the list.
-pub zeros_filled : (held n : ℕ) (bytes words : List ℕ) → held ≡ 0 → between words 0 n 0 ≡ words_after (Ok tt) (node_holds held n bytes) words
+pub zeros_filled : (held : Bool) (n : ℕ) (bytes words : List ℕ) → held ≡ false → between words 0 n 0 ≡ words_after (Ok tt) (node_holds held n bytes) words
 zeros_filled held n bytes words none = rw (none, sub-zero, length-replicate {A = ℕ} n 0) refl
 
-pub holds_told : (held n : ℕ) (bytes : List ℕ) → (held ≡ 0 → ⊥) → node_holds held n bytes ≡ lines_holds n bytes
-holds_told zero n bytes some = absurd (some refl)
-holds_told (suc held) n bytes some = refl
-
-pub told_fillable : {n held : ℕ} {bytes : List ℕ} {at : ℕ} {holds : List ℕ} → (held ≡ 0 → ⊥) → HoldsFillable n held bytes at holds
-    → HoldsFillable n 1 bytes at holds
-told_fillable {n} {held} {bytes} {at} some f = record {
-  count = rw (holds_told held n (drop at bytes) some) at f.count;
-  within = f.within;
-  holds_fit = f.holds_fit;
-}
+pub told_fillable : {n : ℕ} {held : Bool} {bytes : List ℕ} {at : ℕ} {holds : List ℕ} → held ≡ true → HoldsFillable n held bytes at holds
+    → HoldsFillable n true bytes at holds
+told_fillable told f = rw told at f
 
 -- ---- the lines
 
 pub record HoldsProgress (n : ℕ) (bytes : List ℕ) (from : ℕ) (holds₀ holds : List ℕ) (at v : ℕ) : Type 0 where
-  pub given : HoldsFillable n 1 bytes from holds₀
+  pub given : HoldsFillable n true bytes from holds₀
   pub done : List ℕ
   pub reached : Reached 1 n bytes from at v
   pub all : lines_holds n (drop from bytes) ≡ done ++ lines_holds (n - v) (drop at bytes)
   pub count : length done ≡ v
   pub holds_so : holds ≡ done ++ drop v holds₀
 
-pub holds_start : {n : ℕ} {bytes : List ℕ} {from : ℕ} {holds : List ℕ} → HoldsFillable n 1 bytes from holds
+pub holds_start : {n : ℕ} {bytes : List ℕ} {from : ℕ} {holds : List ℕ} → HoldsFillable n true bytes from holds
     → HoldsProgress n bytes from holds holds from 0
 holds_start {n} {bytes} {from} f = record {
   given = f;

@@ -1,7 +1,8 @@
 -- What a planning file shows that passes its checks. Assumes nothing.
+use mathlib.Core.Bool.{Bool, true, false}
 use mathlib.Core.Path.{◌≡◌}
 use mathlib.Core.List.{List, ◌++◌}
-use Prim.Native.Nat.{ℕ, zero, suc, ◌+◌, ◌≤◌, ◌<◌}
+use Prim.Native.Nat.{ℕ, ◌+◌, ◌≤◌, ◌<◌}
 use native.Mathlib.Omega.{arith}
 use lib.ListN.{length-replicate}
 use Rattle.std.specs.Prelude.{Ok}
@@ -15,15 +16,15 @@ use Rattle.plan_checks.specs.Checking.{arcs_check, hold_lines_check, behind_chec
 use Rattle.plan_checks.proofs.Held.{HoldsShown, holds_shown}
 
 -- Holds that are not told are 0 and pass too.
-node_holds_shown : (C m held n : ℕ) (bytes : List ℕ) → hold_lines_check C m (held_lines held n) 0 bytes ≡ Ok tt → HoldsShown C n (node_holds held n bytes)
-node_holds_shown C m zero n bytes passed = record {
+node_holds_shown : (C m : ℕ) (held : Bool) (n : ℕ) (bytes : List ℕ) → hold_lines_check C m (held_lines held n) 0 bytes ≡ Ok tt → HoldsShown C n (node_holds held n bytes)
+node_holds_shown C m false n bytes passed = record {
   count = length-replicate n 0;
   most = λ v l. omega (arith, get_d_replicate_same {A = ℕ} n v 0);
 }
-node_holds_shown C m (suc held) n bytes passed = holds_shown C m n 0 bytes passed
+node_holds_shown C m true n bytes passed = holds_shown C m n 0 bytes passed
 
 -- A file of this line 1, by the bytes behind it and the words of the lists lent for it.
-pub record FilePassed (n m C source K held : ℕ) (lines : List ℕ) (starts heads costs holds : ℕ) : Type 0 where
+pub record FilePassed (n m C source K : ℕ) (held : Bool) (lines : List ℕ) (starts heads costs holds : ℕ) : Type 0 where
   pub nodes_low : 1 ≤ n
   pub nodes_high : n ≤ 4096
   pub arcs_few : m ≤ 65536
@@ -39,7 +40,7 @@ pub record FilePassed (n m C source K held : ℕ) (lines : List ℕ) (starts hea
   pub held_shown : HoldsShown C n (node_holds held n (behind_arcs m lines))
   pub sums_passed : arc_sums_check C (lines_arcs m lines) (node_holds held n (behind_arcs m lines)) ≡ Ok tt
 
-module _ (n m C source K held : ℕ) (lines : List ℕ) (starts heads costs holds : ℕ) where
+module _ (n m C source K : ℕ) (held : Bool) (lines : List ℕ) (starts heads costs holds : ℕ) where
   pub file_passed : first_fault (header_checks n m C source K starts heads costs holds ++ lines_checks n m C held lines) ≡ Ok tt
       → FilePassed n m C source K held lines starts heads costs holds
   unfolding header_checks lent_checks lines_checks behind_checks

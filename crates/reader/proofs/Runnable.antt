@@ -1,4 +1,5 @@
 -- A planning file that passes its checks gives a map that passes those of both runs. Assumes nothing.
+use mathlib.Core.Bool.{Bool}
 use mathlib.Core.Path.{◌≡◌, ◌∙◌}
 use mathlib.Core.List.{List}
 use Prim.Native.Nat.{ℕ, ◌+◌, ◌≤◌}
@@ -35,7 +36,7 @@ pub record Runnable (plan : Plan) (starts heads costs holds : ℕ) : Type 0 wher
 -- ---- the checks of a file
 
 module _ (bytes : List ℕ) (starts heads costs holds : ℕ) where
-  header_runnable : (n m C source K held taken : ℕ) → FilePassed n m C source K held (drop taken bytes) starts heads costs holds
+  header_runnable : (n m C source K : ℕ) (held : Bool) (taken : ℕ) → FilePassed n m C source K held (drop taken bytes) starts heads costs holds
       → Runnable (plan_under (header_numbers (Some (record { nodes = n; arcs = m; ceiling = C; source = source; segments = K; held = held; taken = taken }))) bytes) starts heads costs holds
   header_runnable n m C source K held taken p =
       let lines = drop taken bytes in

@@ -1,5 +1,5 @@
 -- The second pass: what it is given, and what it leaves (document 01, "Planning file").
-use Rattle.std.specs.Prelude.{ℕ, ◌+◌, ◌-◌, ◌≤◌, ◌≡◌, List, ◌++◌, length, take, drop, replicate, Ok}
+use Rattle.std.specs.Prelude.{ℕ, Bool, ◌+◌, ◌-◌, ◌≤◌, ◌≡◌, List, ◌++◌, length, take, drop, replicate, Ok}
 use Rattle.plan_lines.specs.Told.{node_holds}
 use Rattle.plan_checks.specs.Checking.{arcs_check}
 
@@ -14,7 +14,7 @@ pub record Fillable (n m : ℕ) (bytes : List ℕ) (at : ℕ) (starts heads cost
   pub costs_fit : m ≤ length costs
 
 -- What the checks have shown of the lines of n holds, where they are told, and of the list that they fill (document 02, paper 2).
-pub record HoldsFillable (n held : ℕ) (bytes : List ℕ) (at : ℕ) (holds : List ℕ) : Type 0 where
+pub record HoldsFillable (n : ℕ) (held : Bool) (bytes : List ℕ) (at : ℕ) (holds : List ℕ) : Type 0 where
   pub count : length (node_holds held n (drop at bytes)) ≡ n
   pub within : at ≤ length bytes
   pub holds_fit : n ≤ length holds

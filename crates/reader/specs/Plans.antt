@@ -1,5 +1,5 @@
 -- The map of a planning file (document 01, "Planning file" and "What the planner holds and leaves out").
-use Rattle.std.specs.Prelude.{ℕ, List, drop, Option, None, Some}
+use Rattle.std.specs.Prelude.{ℕ, Bool, false, List, drop, Option, None, Some}
 use Rattle.theory.specs.Runs.{Inputs, inputs}
 use Rattle.grouping.specs.Arcs.{PlanArc, starts_of, heads_of, costs_of}
 use Rattle.plan_lines.specs.declared.HeaderLine.{HeaderLine}
@@ -8,19 +8,19 @@ use Rattle.plan_lines.specs.Told.{lines_arcs, behind_arcs, node_holds}
 
 -- ---- the numbers of the file
 
--- Line 1's numbers, m as `count`, the sixth as `held`, and the bytes that it takes (document 01, "Planning file"; document 02, paper 2).
+-- Line 1's numbers, m as `count`, whether it has the sixth as `held`, and the bytes that it takes (document 01, "Planning file"; document 02, paper 2).
 pub record Header : Type 0 where
   pub nodes : ℕ
   pub count : ℕ
   pub ceiling : ℕ
   pub source : ℕ
   pub segments : ℕ
-  pub held : ℕ
+  pub held : Bool
   pub taken : ℕ
 
 -- The numbers of line 1; a file without one is refused, and its numbers count as 0 (document 01, "What a call returns").
 abbrev pub header_numbers : Option HeaderLine → Header
-header_numbers None = record { nodes = 0; count = 0; ceiling = 0; source = 0; segments = 0; held = 0; taken = 0 }
+header_numbers None = record { nodes = 0; count = 0; ceiling = 0; source = 0; segments = 0; held = false; taken = 0 }
 header_numbers (Some line) = record {
   nodes = line.nodes;
   count = line.arcs;

@@ -1,6 +1,6 @@
 // The second pass over a planning file: the lists are filled from lines that have passed their checks (document 01, "Planning file";
 // document 02, paper 2).
-ghost use Rattle.std.specs.Prelude.{◌≡◌, ◌+◌, ◌≤◌, length, drop, Ok};
+ghost use Rattle.std.specs.Prelude.{◌≡◌, ◌+◌, ◌≤◌, true, length, drop, Ok};
 ghost use Rattle.model.specs.Answers.{words_after};
 ghost use Rattle.grouping.specs.Filled.{Filled};
 ghost use Rattle.plan_lines.specs.Told.{lines_taken, lines_arcs, lines_holds, node_holds};
@@ -49,19 +49,19 @@ pub fn fill(
 }
 
 // A file that tells no holds has holds of 0.
-pub fn fill_holds(bytes: &[u8], at: usize, n: u32, held: u32, holds: &mut [u32])
+pub fn fill_holds(bytes: &[u8], at: usize, n: u32, held: bool, holds: &mut [u32])
     requires { HoldsFillable n held bytes.now at holds.old }
     ensures { holds.new ≡ words_after (Ok tt) (node_holds held n (drop at bytes.now)) holds.old }
 {
-    if held == 0 {
-        fill_between(holds, 0, n as usize, 0);
-    } else {
+    if held {
         fill_told(bytes, at, n, holds);
+    } else {
+        fill_between(holds, 0, n as usize, 0);
     }
 }
 
 fn fill_told(bytes: &[u8], at: usize, n: u32, holds: &mut [u32])
-    requires { HoldsFillable n 1 bytes.now at holds.old }
+    requires { HoldsFillable n true bytes.now at holds.old }
     ensures { holds.new ≡ words_after (Ok tt) (lines_holds n (drop at bytes.now)) holds.old }
 {
     let mut line = at;

@@ -4,6 +4,7 @@ ghost use Rattle.destination.specs.Promise.{lent_to};
 ghost use Rattle.roosternow.specs.Handing.{OneLevelToHanded, TwoLevelToHanded};
 
 use answer_words::run_words;
+use checks::Given;
 use model::Node;
 use theory::Levels;
 
@@ -34,15 +35,18 @@ pub extern "C" fn roosternow_one_level_to(
         reversed_heads.new reversed_costs.new old_arcs.new)
         numbers.new }
 {
-    let one = destination::run_to(
-        Levels::One,
-        n,
+    let given = Given {
+        nodes: n,
         ceiling,
-        Node(destination),
+        source: Node(destination),
         starts,
         heads,
         costs,
         holds,
+    };
+    let one = destination::run_to(
+        Levels::One,
+        given,
         distances,
         parents,
         roster,
@@ -83,15 +87,18 @@ pub extern "C" fn roosternow_two_level_to(
         reversed_heads.new reversed_costs.new old_arcs.new)
         numbers.new }
 {
-    let two = destination::run_to(
-        Levels::Two { segments },
-        n,
+    let given = Given {
+        nodes: n,
         ceiling,
-        Node(destination),
+        source: Node(destination),
         starts,
         heads,
         costs,
         holds,
+    };
+    let two = destination::run_to(
+        Levels::Two { segments },
+        given,
         distances,
         parents,
         roster,

@@ -13,6 +13,7 @@ ghost use Rattle.runs.specs.Promise.{lent};
 ghost use Rattle.roosternow.specs.Handing.{archive_version, OneLevelHanded, TwoLevelHanded, RouteHanded, ReadHanded, DimacsHanded};
 
 use answer_words::{dimacs_words, read_words, route_words, run_words};
+use checks::Given;
 use model::Node;
 use theory::Levels;
 
@@ -46,20 +47,16 @@ pub extern "C" fn roosternow_one_level(
         (lent distances.old parents.old roster.old work.old)
         (lent distances.new parents.new roster.new work.new) numbers.new }
 {
-    let one = runs::run(
-        Levels::One,
-        n,
+    let given = Given {
+        nodes: n,
         ceiling,
-        Node(source),
+        source: Node(source),
         starts,
         heads,
         costs,
         holds,
-        distances,
-        parents,
-        roster,
-        work,
-    );
+    };
+    let one = runs::run(Levels::One, given, distances, parents, roster, work);
     *numbers = run_words(one);
 }
 
@@ -84,15 +81,18 @@ pub extern "C" fn roosternow_two_level(
         (lent distances.old parents.old roster.old work.old)
         (lent distances.new parents.new roster.new work.new) numbers.new }
 {
-    let two = runs::run(
-        Levels::Two { segments },
-        n,
+    let given = Given {
+        nodes: n,
         ceiling,
-        Node(source),
+        source: Node(source),
         starts,
         heads,
         costs,
         holds,
+    };
+    let two = runs::run(
+        Levels::Two { segments },
+        given,
         distances,
         parents,
         roster,

@@ -3,6 +3,7 @@ ghost use Rattle.theory.specs.Runs.{inputs};
 ghost use Rattle.roosternow.specs.Handing.{WriteHanded};
 
 use answer_words::write_words;
+use checks::Given;
 use model::Node;
 
 // The planning file of a map: it is written to the front of the bytes, and its length is the last number.
@@ -22,16 +23,15 @@ pub extern "C" fn roosternow_write(
     ensures { WriteHanded (inputs n ceiling source starts.now heads.now costs.now holds.now) segments
         bytes.old bytes.new numbers.new }
 {
-    let answer = writer::write(
-        n,
+    let given = Given {
+        nodes: n,
         ceiling,
-        Node(source),
-        segments,
+        source: Node(source),
         starts,
         heads,
         costs,
         holds,
-        bytes,
-    );
+    };
+    let answer = writer::write(given, segments, bytes);
     *numbers = write_words(answer);
 }

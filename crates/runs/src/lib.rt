@@ -6,13 +6,15 @@ ghost use Rattle.std.specs.Prelude.{◌≡◌, ◌+◌, ◌<◌, Ok};
 ghost use Rattle.theory.specs.Maps.{map_of};
 ghost use Rattle.theory.specs.Heap.{heap};
 ghost use Rattle.state.specs.Stands.{Setting};
-ghost use Rattle.theory.specs.Runs.{inputs, segment_count};
+ghost use Rattle.theory.specs.Runs.{segment_count};
 ghost use Rattle.theory.specs.declared.Levels.{Levels};
 ghost use Rattle.checks.specs.Checks.{Ready};
+ghost use Rattle.checks.specs.Given.{inputs_of};
 ghost use Rattle.runs.specs.Promise.{Ran, Promised, lent, lengths_of};
 ghost use Rattle.runs.specs.Parts.{counts_told, Built, SomeBuilt, RunsOn, SomeRunsOn, Ended};
 
-use model::{Counts, Fault, Node, Run};
+use checks::Given;
+use model::{Counts, Fault, Run};
 use state::{Layout, State, Tally};
 use theory::Levels;
 
@@ -30,11 +32,8 @@ fn counts(tally: Tally) -> Counts
 }
 
 // The core on exactly the words that a run fills of each list; the work words are cleared behind it.
-fn run_on(
-    starts: &[u32],
-    heads: &[u32],
-    costs: &[u32],
-    holds: &[u32],
+fn run_on<'a>(
+    given: Given<'a>,
     distances: &mut [u32],
     parents: &mut [u32],
     roster: &mut [u32],
@@ -42,13 +41,14 @@ fn run_on(
     sizes: &[u32],
     layout: Layout,
     top: u32,
-    source: Node,
     needed: usize,
 ) -> State
-    requires { SomeRunsOn layout sizes.now starts.now heads.now costs.now holds.now source.0 top needed
+    requires { SomeRunsOn layout sizes.now given.starts.now given.heads.now given.costs.now given.holds.now
+        given.source.0 top needed
         (lent distances.old parents.old roster.old work.old) }
     ensures { (X : Setting layout sizes.now)
-        → RunsOn X (map_of layout.nodes starts.now heads.now costs.now holds.now) source.0 top needed
+        → RunsOn X (map_of layout.nodes given.entry.starts.now given.entry.heads.now given.entry.costs.now given.entry.holds.now)
+        given.entry.source.0 top needed
         (lent distances.old parents.old roster.old work.old)
         → Ended (heap X.network X.shape) needed
         (lent distances.old parents.old roster.old work.old)
@@ -61,56 +61,49 @@ fn run_on(
         &mut parents[..n],
         roster,
         sizes,
-        starts,
-        heads,
-        costs,
-        holds,
+        given.starts,
+        given.heads,
+        given.costs,
+        given.holds,
         layout,
         top,
-        source,
+        given.source,
     );
     search::fill(&mut work[..needed], 0);
     state
 }
 
 // The run of inputs and lists that have passed the checks, in a heap of so many buckets of so many segments.
-fn steps(
-    n: u32,
-    ceiling: u32,
-    source: Node,
+fn steps<'a>(
+    given: Given<'a>,
     buckets: u32,
     segments: u32,
     needed: usize,
     sizes: &[u32],
-    starts: &[u32],
-    heads: &[u32],
-    costs: &[u32],
-    holds: &[u32],
     distances: &mut [u32],
     parents: &mut [u32],
     roster: &mut [u32],
     work: &mut [u32],
 ) -> Run
-    requires { SomeBuilt (inputs n ceiling source.0 starts.now heads.now costs.now holds.now) buckets segments sizes.now needed
+    requires { SomeBuilt (inputs_of given) buckets segments sizes.now needed
         (lent distances.old parents.old roster.old work.old) }
     ensures { (L : Levels)
-        → Built L (inputs n ceiling source.0 starts.now heads.now costs.now holds.now) buckets segments sizes.now needed
+        → Built L (inputs_of given.entry) buckets segments sizes.now needed
         (lent distances.old parents.old roster.old work.old)
-        → Ran L (inputs n ceiling source.0 starts.now heads.now costs.now holds.now) (Ok tt) (Ok result)
+        → Ran L (inputs_of given.entry) (Ok tt) (Ok result)
         (lent distances.old parents.old roster.old work.old)
         (lent distances.new parents.new roster.new work.new) }
 {
     let slots = (buckets - 1) * segments + 1;
     let layout = Layout {
-        nodes: n as usize,
+        nodes: given.nodes as usize,
         buckets: buckets as usize,
         segments: segments as usize,
         slots: slots as usize,
     };
-    let top = n * ceiling + 1;
+    let top = given.nodes * given.ceiling + 1;
     let state = run_on(
-        starts, heads, costs, holds, distances, parents, roster, work, sizes, layout, top, source,
-        needed,
+        given, distances, parents, roster, work, sizes, layout, top, needed,
     );
     Run {
         reached: state.reached,
@@ -120,33 +113,26 @@ fn steps(
 }
 
 // The run of inputs and lists that have passed the checks.
-pub fn run_steps(
+pub fn run_steps<'a>(
     levels: Levels,
-    n: u32,
-    ceiling: u32,
-    source: Node,
-    starts: &[u32],
-    heads: &[u32],
-    costs: &[u32],
-    holds: &[u32],
+    given: Given<'a>,
     distances: &mut [u32],
     parents: &mut [u32],
     roster: &mut [u32],
     work: &mut [u32],
 ) -> Run
-    requires { Ready levels (inputs n ceiling source.0 starts.now heads.now costs.now holds.now)
+    requires { Ready levels (inputs_of given)
         (lengths_of (lent distances.old parents.old roster.old work.old)) }
-    ensures { Ran levels (inputs n ceiling source.0 starts.now heads.now costs.now holds.now) (Ok tt) (Ok result)
+    ensures { Ran levels (inputs_of given.entry) (Ok tt) (Ok result)
         (lent distances.old parents.old roster.old work.old)
         (lent distances.new parents.new roster.new work.new) }
 {
-    let buckets = sizes::buckets(levels, ceiling);
+    let buckets = sizes::buckets(levels, given.ceiling);
     let segments = segment_count(levels);
-    let needed = checks::work_words(levels, n);
+    let needed = checks::work_words(levels, given.nodes);
     let sizes = sizes::sizes(levels);
     steps(
-        n, ceiling, source, buckets, segments, needed, &sizes, starts, heads, costs, holds,
-        distances, parents, roster, work,
+        given, buckets, segments, needed, &sizes, distances, parents, roster, work,
     )
 }
 
@@ -160,39 +146,25 @@ fn segment_count(levels: Levels) -> u32
     }
 }
 
-pub fn run(
+pub fn run<'a>(
     levels: Levels,
-    n: u32,
-    ceiling: u32,
-    source: Node,
-    starts: &[u32],
-    heads: &[u32],
-    costs: &[u32],
-    holds: &[u32],
+    given: Given<'a>,
     distances: &mut [u32],
     parents: &mut [u32],
     roster: &mut [u32],
     work: &mut [u32],
 ) -> Result<Run, Fault>
-    ensures { Promised levels (inputs n ceiling source.0 starts.now heads.now costs.now holds.now) result
+    ensures { Promised levels (inputs_of given.entry) result
         (lent distances.old parents.old roster.old work.old)
         (lent distances.new parents.new roster.new work.new) }
 {
     checks::run_check(
         levels,
-        n,
-        ceiling,
-        source,
-        starts,
-        heads,
-        costs,
-        holds,
+        given,
         distances.len(),
         parents.len(),
         roster.len(),
         work.len(),
     )?;
-    Ok(run_steps(
-        levels, n, ceiling, source, starts, heads, costs, holds, distances, parents, roster, work,
-    ))
+    Ok(run_steps(levels, given, distances, parents, roster, work))
 }

@@ -1,5 +1,6 @@
 // The rows that call the planner. Lists are lent with words of no meaning in them, and all their words go into the sums that are printed,
 // so that every word written or left shows.
+use checks::Given;
 use model::{Fault, Node, Run};
 use std::io;
 use test_rows::bytes::made;
@@ -40,19 +41,20 @@ fn answer_of(
     roster: &mut [u32],
     work: &mut [u32],
 ) -> Result<Run, Fault> {
-    let source = Node(row.n3);
-    let starts = part(map, 0, row.n4);
-    let heads = part(map, HEADS, row.n5);
-    let costs = part(map, COSTS, row.n6);
-    let holds = part(map, HOLDS, row.n7);
+    let given = Given {
+        nodes: row.n1,
+        ceiling: row.n2,
+        source: Node(row.n3),
+        starts: part(map, 0, row.n4),
+        heads: part(map, HEADS, row.n5),
+        costs: part(map, COSTS, row.n6),
+        holds: part(map, HOLDS, row.n7),
+    };
     let levels = match segments {
         None => Levels::One,
         Some(segments) => Levels::Two { segments },
     };
-    runs::run(
-        levels, row.n1, row.n2, source, starts, heads, costs, holds, distances, parents, roster,
-        work,
-    )
+    runs::run(levels, given, distances, parents, roster, work)
 }
 
 // A row scan has the roster's lent words behind each run, so that their order can be read.

@@ -68,15 +68,23 @@ fn two_pieces(end: u64, byte: Option<u8>, rest: u64) -> Pieces {
     }
 }
 
+// What becomes of a line.
+#[derive(Clone, Copy)]
+enum Line {
+    Dropped,
+    Doubled,
+    Swapped,
+}
+
 // The line at a place is dropped, doubled or swapped with the next.
-fn damaged_line(file: &[u8], kind: u32, place: u64) -> Pieces {
+fn damaged_line(file: &[u8], line: Line, place: u64) -> Pieces {
     let start = line_start(file, place);
     let end = line_end(file, start);
     let next = line_end(file, end);
-    match kind {
-        1 => two_pieces(start, None, end),
-        2 => two_pieces(end, None, start),
-        _ => Pieces {
+    match line {
+        Line::Dropped => two_pieces(start, None, end),
+        Line::Doubled => two_pieces(end, None, start),
+        Line::Swapped => Pieces {
             end: start,
             byte: None,
             second: end,
@@ -125,10 +133,11 @@ fn any_pieces(file: &[u8], first: u64, likely: &[u8], word: u64) -> Pieces {
     let second = random::next(word);
     let third = random::next(second);
     let place = any_place(first, length, third);
-    let kind = random::below(second, 8);
-    match kind {
+    match random::below(second, 8) {
         0 => two_pieces(place, None, length),
-        1..=3 => damaged_line(file, kind, place),
+        1 => damaged_line(file, Line::Dropped, place),
+        2 => damaged_line(file, Line::Doubled, place),
+        3 => damaged_line(file, Line::Swapped, place),
         4 => two_pieces(length, None, length),
         _ => damaged_byte(likely, random::next(third), place),
     }

@@ -1,6 +1,7 @@
 // The rows that make a run to a destination. Lists are lent with words of no meaning in them, and all their words go into the sums that are
 // printed, so that every word written or left shows.
 use crate::printing::{print_answer, print_reversed, print_run};
+use checks::Given;
 use model::{Fault, Node, Run};
 use std::io;
 use test_rows::lists::front;
@@ -60,11 +61,15 @@ fn answer_of(
     map: &[u32],
     lists: &mut Lists,
 ) -> Result<Run, Fault> {
-    let target = Node(row.n3);
-    let map_starts = part(map, 0, row.n4);
-    let map_heads = part(map, HEADS, row.n5);
-    let map_costs = part(map, COSTS, row.n6);
-    let map_holds = part(map, HOLDS, row.n7);
+    let given = Given {
+        nodes: row.n1,
+        ceiling: row.n2,
+        source: Node(row.n3),
+        starts: part(map, 0, row.n4),
+        heads: part(map, HEADS, row.n5),
+        costs: part(map, COSTS, row.n6),
+        holds: part(map, HOLDS, row.n7),
+    };
     let distances = front(&mut lists.distances, lent.distances);
     let parents = front(&mut lists.parents, lent.parents);
     let roster = front(&mut lists.roster, lent.roster);
@@ -78,8 +83,7 @@ fn answer_of(
         Some(segments) => Levels::Two { segments },
     };
     destination::run_to(
-        levels, row.n1, row.n2, target, map_starts, map_heads, map_costs, map_holds, distances,
-        parents, roster, work, starts, heads, costs, old_arcs,
+        levels, given, distances, parents, roster, work, starts, heads, costs, old_arcs,
     )
 }
 

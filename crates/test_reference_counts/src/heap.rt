@@ -1,12 +1,13 @@
 // The numbers of the two heaps by document 01's formulas ("One-level heap", "Two-level heap"): powers by multiplication, the logarithm by
 // a loop.
+use test_reference_map::case::Height;
 use test_reference_map::nodes::Table;
 use test_reference_map::{nodes, words};
 
 // K is `segments`, B is `buckets`, nC + 1 is `top`. The one-level heap has one segment to a bucket.
 #[derive(Clone, Copy)]
 pub struct Heap {
-    pub levels: u64,
+    pub height: Height,
     pub segments: u64,
     pub buckets: u64,
     pub top: u64,
@@ -19,28 +20,28 @@ fn logarithm(base: u64, number: u64) -> u64 {
         .unwrap_or(20)
 }
 
-pub fn heap_of(levels: u64, n: u64, ceiling: u64, segments: u64) -> Heap {
+pub fn heap_of(height: Height, n: u64, ceiling: u64, segments: u64) -> Heap {
     let top = words::sum(words::product(n, ceiling), 1);
     let costs = words::sum(ceiling, 1);
-    if levels == 1 {
-        return Heap {
-            levels,
+    match height {
+        Height::One => Heap {
+            height,
             segments: 1,
             buckets: words::sum(logarithm(2, costs), 2),
             top,
-        };
-    }
-    Heap {
-        levels,
-        segments,
-        buckets: words::most(2, words::sum(logarithm(segments, costs), 1)),
-        top,
+        },
+        Height::Two => Heap {
+            height,
+            segments,
+            buckets: words::most(2, words::sum(logarithm(segments, costs), 1)),
+            top,
+        },
     }
 }
 
 // The size of bucket i below the last.
 pub fn size(heap: Heap, i: u64) -> u64 {
-    if heap.levels == 2 {
+    if heap.height == Height::Two {
         return words::power(heap.segments, i);
     }
     if i == 1 {
@@ -60,7 +61,7 @@ fn powers_to(base: u64, i: u64) -> u64 {
 
 // u(i) at first, below the last bucket.
 fn first_bound(heap: Heap, i: u64) -> u64 {
-    if heap.levels == 2 {
+    if heap.height == Height::Two {
         return words::least(words::minus(powers_to(heap.segments, i), 1), heap.top);
     }
     words::least(
@@ -108,7 +109,7 @@ pub fn search(table: &Table, start: u64, key: u64) -> Found {
 
 // The segment of a key in bucket i, counted from the top of its range.
 pub fn segment_of(heap: Heap, table: &Table, i: u64, key: u64) -> u64 {
-    if heap.levels == 1 || i == heap.buckets {
+    if heap.height == Height::One || i == heap.buckets {
         return 1;
     }
     let below = words::minus(bound(table, i), key);
@@ -118,7 +119,7 @@ pub fn segment_of(heap: Heap, table: &Table, i: u64, key: u64) -> u64 {
 
 // The upper end of segment k of bucket i.
 pub fn upper_end(heap: Heap, table: &Table, i: u64, k: u64) -> u64 {
-    if heap.levels == 1 || i == heap.buckets {
+    if heap.height == Height::One || i == heap.buckets {
         return bound(table, i);
     }
     let width = words::power(heap.segments, words::minus(i, 1));
@@ -128,7 +129,7 @@ pub fn upper_end(heap: Heap, table: &Table, i: u64, k: u64) -> u64 {
 
 // u(1) after a removal with smallest key d and upper end t.
 fn lowest_bound(heap: Heap, d: u64, t: u64) -> u64 {
-    if heap.levels == 2 {
+    if heap.height == Height::Two {
         return words::least(words::minus(words::sum(d, heap.segments), 1), t);
     }
     d

@@ -2,7 +2,7 @@
 // holds of document 02, paper 2, and the bounds read of its paper 3).
 use crate::heap;
 use crate::heap::Heap;
-use test_reference_map::case::{Case, Counts};
+use test_reference_map::case::{Case, Counts, Height};
 use test_reference_map::map::Lists;
 use test_reference_map::nodes::Table;
 use test_reference_map::{map, nodes, words};
@@ -83,10 +83,10 @@ fn shift_all(heap: Heap, n: u64, table: &mut Table, j: u64, k: u64) {
 
 // The buckets examined up to j, and in the two-level heap the segments examined up to k.
 fn looks(heap: Heap, j: u64, k: u64) -> u64 {
-    if heap.levels == 2 {
-        return words::sum(j, k);
+    match heap.height {
+        Height::One => j,
+        Height::Two => words::sum(j, k),
     }
-    j
 }
 
 // A removal from segment k of bucket j.
@@ -174,14 +174,9 @@ fn placements(table: &Table) -> u64 {
 }
 
 // The counts of a run with one level or with two, and its rows of the table.
-pub fn run(levels: u32, case: Case, lists: &Lists, table: &mut Table) -> Counts {
+pub fn run(height: Height, case: Case, lists: &Lists, table: &mut Table) -> Counts {
     let n = u64::from(case.nodes);
-    let heap = heap::heap_of(
-        u64::from(levels),
-        n,
-        u64::from(case.ceiling),
-        u64::from(case.segments),
-    );
+    let heap = heap::heap_of(height, n, u64::from(case.ceiling), u64::from(case.segments));
     clear(n, table);
     heap::first_bounds(heap, table);
     let source = u64::from(case.source);

@@ -1,6 +1,6 @@
 // What a run to a destination is refused for: as a run, but for 8 with the hold of an arc's head, and 10 with four lists more (document 02,
 // paper 7).
-use test_reference_map::case::Case;
+use test_reference_map::case::{Case, Height};
 use test_reference_map::map::Lists;
 use test_reference_map::refusal::{Refusal, refuse};
 use test_reference_map::{map, words};
@@ -47,13 +47,13 @@ fn check_reversed(case: Case, reversed: ReversedWords) -> Result<(), Refusal> {
 
 // The first of 1 to 6, 20, and 7 to 10.
 pub fn check(
-    levels: u32,
+    height: Height,
     case: Case,
     reversed: ReversedWords,
     lists: &Lists,
 ) -> Result<(), Refusal> {
-    refusals::check_lists(levels, case, lists)?;
+    refusals::check_lists(Some(height), case, lists)?;
     check_sums(case, lists)?;
-    refusals::check_lent(levels, case)?;
+    refusals::check_lent(Some(height), case)?;
     check_reversed(case, reversed)
 }

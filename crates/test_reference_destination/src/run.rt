@@ -3,7 +3,7 @@
 use crate::reversed::OldArcs;
 use crate::{reversed, spelled, walks};
 use test_reference_counts::recount;
-use test_reference_map::case::{Case, Counts};
+use test_reference_map::case::{Case, Counts, Height};
 use test_reference_map::map::Lists;
 use test_reference_map::nodes::Table;
 use test_reference_map::{nodes, words};
@@ -47,7 +47,7 @@ fn differing_steps(n: u64, reached: u64, counts: Counts, table: &Table) -> u64 {
 
 // The run with one level or with two, of a case that is not refused; the reversed map and the table are filled.
 pub fn run(
-    levels: u32,
+    height: Height,
     case: Case,
     lists: &Lists,
     reversed: &mut Lists,
@@ -58,7 +58,7 @@ pub fn run(
     let destination = u64::from(case.source);
     reversed::reverse(n, u64::from(case.heads), lists, reversed, old_arcs);
     let reached = dijkstra::search(n, destination, reversed, table);
-    let counts = recount::run(levels, case, reversed, table);
+    let counts = recount::run(height, case, reversed, table);
     let steps = differing_steps(n, reached, counts, table);
     rename(case, old_arcs, table);
     walks::cheapest(n, destination, lists, table);

@@ -1,3 +1,10 @@
+// The heap of a run: with one level, or with two (document 01, "One-level heap" and "Two-level heap").
+#[derive(Clone, Copy, PartialEq, Eq)]
+pub enum Height {
+    One,
+    Two,
+}
+
 // A run's numbers and the words lent of each of its lists (document 01, "What the planner holds and leaves out", and for the holds document
 // 02, paper 2).
 #[derive(Clone, Copy)]

@@ -1,7 +1,6 @@
 // What a call is refused for, in the order of document 01, "What a call returns", with 20 and the sums of 8 of document 02, paper 2. A run
-// has one level or two; a route, which is lent no costs and no holds and of the lists by node the parents alone, is refused as a run of no
-// level.
-use test_reference_map::case::Case;
+// has one level or two; a route, which is lent no costs and no holds and of the lists by node the parents alone, has no heap.
+use test_reference_map::case::{Case, Height};
 use test_reference_map::map::Lists;
 use test_reference_map::refusal::{Refusal, refuse};
 use test_reference_map::{map, words};
@@ -73,9 +72,9 @@ fn check_starts(case: Case, lists: &Lists) -> Result<(), Refusal> {
 }
 
 // 20 of a run: holds not n words, or the least node whose hold is above the ceiling.
-fn check_holds(levels: u32, case: Case, lists: &Lists) -> Result<(), Refusal> {
+fn check_holds(height: Option<Height>, case: Case, lists: &Lists) -> Result<(), Refusal> {
     let n = u64::from(case.nodes);
-    if levels == 0 {
+    if height.is_none() {
         return Ok(());
     }
     if u64::from(case.holds) != n {
@@ -98,10 +97,10 @@ fn check_heads(case: Case, lists: &Lists) -> Result<(), Refusal> {
 }
 
 // 8 of a run.
-fn check_sums(levels: u32, case: Case, lists: &Lists) -> Result<(), Refusal> {
+fn check_sums(height: Option<Height>, case: Case, lists: &Lists) -> Result<(), Refusal> {
     let n = u64::from(case.nodes);
     let m = u64::from(case.costs);
-    if levels == 0 {
+    if height.is_none() {
         return Ok(());
     }
     match first_sum_above(n, m, lists, u64::from(case.ceiling)) {
@@ -111,19 +110,19 @@ fn check_sums(levels: u32, case: Case, lists: &Lists) -> Result<(), Refusal> {
 }
 
 // The words that a run needs of the work list.
-pub fn work_words(levels: u32, nodes: u32) -> u64 {
+pub fn work_words(height: Height, nodes: u32) -> u64 {
     let by_node = words::product(4, u64::from(nodes));
-    if levels == 1 {
-        return words::sum(by_node, 64);
+    match height {
+        Height::One => words::sum(by_node, 64),
+        Height::Two => words::sum(by_node, 384),
     }
-    words::sum(by_node, 384)
 }
 
 // 9 and 10.
-pub fn check_lent(levels: u32, case: Case) -> Result<(), Refusal> {
+pub fn check_lent(height: Option<Height>, case: Case) -> Result<(), Refusal> {
     let n = case.nodes;
-    let run = levels != 0;
-    if levels == 2 && (case.segments < 2 || case.segments > 64) {
+    let run = height.is_some();
+    if height == Some(Height::Two) && (case.segments < 2 || case.segments > 64) {
         return refuse(9, 0);
     }
     if run && case.distances < n {
@@ -135,23 +134,23 @@ pub fn check_lent(levels: u32, case: Case) -> Result<(), Refusal> {
     if run && case.roster < n {
         return refuse(10, 2);
     }
-    if run && u64::from(case.work) < work_words(levels, n) {
+    if height.is_some_and(|height| u64::from(case.work) < work_words(height, n)) {
         return refuse(10, 3);
     }
     Ok(())
 }
 
 // The first of 1 to 6, 20 and 7, whatever is lent besides the map.
-pub fn check_lists(levels: u32, case: Case, lists: &Lists) -> Result<(), Refusal> {
-    check_numbers(levels != 0, case)?;
+pub fn check_lists(height: Option<Height>, case: Case, lists: &Lists) -> Result<(), Refusal> {
+    check_numbers(height.is_some(), case)?;
     check_starts(case, lists)?;
-    check_holds(levels, case, lists)?;
+    check_holds(height, case, lists)?;
     check_heads(case, lists)
 }
 
 // The first of 1 to 6, 20, and 7 to 10.
-pub fn check(levels: u32, case: Case, lists: &Lists) -> Result<(), Refusal> {
-    check_lists(levels, case, lists)?;
-    check_sums(levels, case, lists)?;
-    check_lent(levels, case)
+pub fn check(height: Option<Height>, case: Case, lists: &Lists) -> Result<(), Refusal> {
+    check_lists(height, case, lists)?;
+    check_sums(height, case, lists)?;
+    check_lent(height, case)
 }

@@ -77,7 +77,7 @@ pub fn route(
     destination: u64,
     room: u64,
 ) -> Result<u64, Refusal> {
-    refusals::check(0, case, lists)?;
+    refusals::check(None, case, lists)?;
     check_destination(case, table, destination)?;
     let Some(nodes) = walk_back(case, lists, table, destination) else {
         return refuse(16, 0);

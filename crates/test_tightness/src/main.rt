@@ -4,6 +4,7 @@
 // the count, its bound, and how many thousandths of the bound it is.
 #![tactic(auto)]
 
+use checks::Given;
 use model::{Counts, Fault, Node, Run};
 use std::io;
 use theory::Levels;
@@ -66,7 +67,7 @@ fn print_shares(
     buckets: u32,
     counts: Counts,
 ) -> io::Result<()> {
-    let arcs = map.heads.len() as u64;
+    let arcs = map.given.heads.len() as u64;
     let segments = u64::from(heap.segments(map));
     let removals = u64::from(reached);
     let spare = arcs.saturating_add(1).saturating_sub(removals);
@@ -88,13 +89,8 @@ fn print_shares(
 #[derive(Clone, Copy)]
 struct Map<'a> {
     name: &'a [u8],
-    nodes: u32,
-    ceiling: u32,
     segments: u32,
-    starts: &'a [u32],
-    heads: &'a [u32],
-    costs: &'a [u32],
-    holds: &'a [u32],
+    given: Given<'a>,
 }
 
 fn answer_of(map: Map, heap: Heap) -> Result<Run, Fault> {
@@ -104,13 +100,7 @@ fn answer_of(map: Map, heap: Heap) -> Result<Run, Fault> {
     let mut work = [0u32; 16768];
     runs::run(
         heap.levels(map),
-        map.nodes,
-        map.ceiling,
-        Node(0),
-        map.starts,
-        map.heads,
-        map.costs,
-        map.holds,
+        map.given,
         &mut distances,
         &mut parents,
         &mut roster,
@@ -168,13 +158,16 @@ fn fall_by_halves(rt: &impl Print) -> io::Result<()> {
     approach(&mut costs[1..], 1048577, 1048576, 2);
     let map = Map {
         name: b"falling through buckets of one level",
-        nodes: 4096,
-        ceiling: 1048575,
         segments: 32,
-        starts: &starts,
-        heads: &heads,
-        costs: &costs,
-        holds: &[0u32; 4096],
+        given: Given {
+            nodes: 4096,
+            ceiling: 1048575,
+            source: Node(0),
+            starts: &starts,
+            heads: &heads,
+            costs: &costs,
+            holds: &[0u32; 4096],
+        },
     };
     run_both(rt, map)
 }
@@ -192,13 +185,16 @@ fn fall_by_segments(rt: &impl Print) -> io::Result<()> {
     costs[1] = 33825;
     let map = Map {
         name: b"falling through buckets of two levels",
-        nodes: 4096,
-        ceiling: 1048575,
         segments: 32,
-        starts: &starts,
-        heads: &heads,
-        costs: &costs,
-        holds: &[0u32; 4096],
+        given: Given {
+            nodes: 4096,
+            ceiling: 1048575,
+            source: Node(0),
+            starts: &starts,
+            heads: &heads,
+            costs: &costs,
+            holds: &[0u32; 4096],
+        },
     };
     run_both(rt, map)
 }
@@ -213,13 +209,16 @@ fn look_at_every_bucket(rt: &impl Print) -> io::Result<()> {
     let costs = [1048575u32; 4095];
     let map = Map {
         name: b"looks at every bucket",
-        nodes: 4096,
-        ceiling: 1048575,
         segments: 32,
-        starts: &starts,
-        heads: &heads,
-        costs: &costs,
-        holds: &[0u32; 4096],
+        given: Given {
+            nodes: 4096,
+            ceiling: 1048575,
+            source: Node(0),
+            starts: &starts,
+            heads: &heads,
+            costs: &costs,
+            holds: &[0u32; 4096],
+        },
     };
     run_both(rt, map)
 }
@@ -233,13 +232,16 @@ fn look_at_every_segment(rt: &impl Print) -> io::Result<()> {
     let costs = [63u32; 4095];
     let map = Map {
         name: b"looks at every segment",
-        nodes: 4096,
-        ceiling: 63,
         segments: 64,
-        starts: &starts,
-        heads: &heads,
-        costs: &costs,
-        holds: &[0u32; 4096],
+        given: Given {
+            nodes: 4096,
+            ceiling: 63,
+            source: Node(0),
+            starts: &starts,
+            heads: &heads,
+            costs: &costs,
+            holds: &[0u32; 4096],
+        },
     };
     run_both(rt, map)
 }
@@ -298,13 +300,16 @@ fn decrease_at_every_arc(rt: &impl Print) -> io::Result<()> {
     starts[362] = 65341;
     let map = Map {
         name: b"every arc a decrease",
-        nodes: 362,
-        ceiling: 721000,
         segments: 64,
-        starts: &starts,
-        heads: &heads,
-        costs: &costs,
-        holds: &[0u32; 362],
+        given: Given {
+            nodes: 362,
+            ceiling: 721000,
+            source: Node(0),
+            starts: &starts,
+            heads: &heads,
+            costs: &costs,
+            holds: &[0u32; 362],
+        },
     };
     run_both(rt, map)
 }

@@ -1,14 +1,14 @@
 // A run to a destination beside the references: its answer, and every word of the eight lists lent to it (document 02, paper 7).
 use crate::expected::Expected;
+use checks::Given;
 use model::{Fault, Node, Run};
-use test_generated::lists;
+use test_generated::{answers, lists};
 use test_reference_destination::refusals::ReversedWords;
 use test_reference_destination::reversed::OldArcs;
 use test_reference_destination::run::Searched;
-use test_reference_map::case::Case;
+use test_reference_map::case::{Case, Height};
 use test_reference_map::map::Lists;
 use test_reference_map::nodes::Table;
-use test_reference_map::refusal::Refusal;
 use test_reference_map::{map, nodes, words};
 use test_reference_search::refusals;
 use theory::Levels;
@@ -38,19 +38,21 @@ pub struct Ran {
 
 // The run with one level or with two; as many words of each list are lent as the case says.
 fn answer_of(
-    levels: u32,
+    height: Height,
     case: Case,
     room: ReversedWords,
     lists: &Lists,
     lent: &mut Lent,
 ) -> Result<Run, Fault> {
-    let n = case.nodes;
-    let ceiling = case.ceiling;
-    let target = Node(case.source);
-    let map_starts = lists::part(lists, map::STARTS, case.starts);
-    let map_heads = lists::part(lists, map::HEADS, case.heads);
-    let map_costs = lists::part(lists, map::COSTS, case.costs);
-    let map_holds = lists::part(lists, map::HOLDS, case.holds);
+    let given = Given {
+        nodes: case.nodes,
+        ceiling: case.ceiling,
+        source: Node(case.source),
+        starts: lists::part(lists, map::STARTS, case.starts),
+        heads: lists::part(lists, map::HEADS, case.heads),
+        costs: lists::part(lists, map::COSTS, case.costs),
+        holds: lists::part(lists, map::HOLDS, case.holds),
+    };
     let distances = lists::front(&mut lent.distances, case.distances);
     let parents = lists::front(&mut lent.parents, case.parents);
     let roster = lists::front(&mut lent.roster, case.roster);
@@ -59,19 +61,18 @@ fn answer_of(
     let heads = lists::front(&mut lent.heads, room.heads);
     let costs = lists::front(&mut lent.costs, room.costs);
     let old_arcs = lists::front(&mut lent.old_arcs, room.old_arcs);
-    let kind = match levels {
-        1 => Levels::One,
-        _ => Levels::Two {
+    let kind = match height {
+        Height::One => Levels::One,
+        Height::Two => Levels::Two {
             segments: case.segments,
         },
     };
     destination::run_to(
-        kind, n, ceiling, target, map_starts, map_heads, map_costs, map_holds, distances, parents,
-        roster, work, starts, heads, costs, old_arcs,
+        kind, given, distances, parents, roster, work, starts, heads, costs, old_arcs,
     )
 }
 
-pub fn run(levels: u32, case: Case, room: ReversedWords, lists: &Lists) -> Ran {
+pub fn run(height: Height, case: Case, room: ReversedWords, lists: &Lists) -> Ran {
     let mut lent = Lent {
         distances: [lists::DISTANCES; 4112],
         parents: [lists::PARENTS; 4112],
@@ -82,57 +83,8 @@ pub fn run(levels: u32, case: Case, room: ReversedWords, lists: &Lists) -> Ran {
         costs: [lists::COSTS; 4112],
         old_arcs: [lists::OLD_ARCS; 4112],
     };
-    let answer = answer_of(levels, case, room, lists, &mut lent);
+    let answer = answer_of(height, case, room, lists, &mut lent);
     Ran { answer, lent }
-}
-
-fn numbers_of(answer: Result<Run, Fault>) -> [u64; 8] {
-    match answer {
-        Ok(run) => [
-            0,
-            0,
-            run.reached as u64,
-            run.buckets as u64,
-            run.counts.decreases as u64,
-            run.counts.placements as u64,
-            run.counts.looks as u64,
-            run.counts.reads as u64,
-        ],
-        Err(fault) => [
-            u64::from(fault.kind.number()),
-            fault.place as u64,
-            0,
-            0,
-            0,
-            0,
-            0,
-            0,
-        ],
-    }
-}
-
-fn numbers_expected(expected: Expected) -> [u64; 8] {
-    match expected {
-        Ok(Searched { counts, .. }) => [
-            0,
-            0,
-            counts.reached,
-            counts.buckets,
-            counts.decreases,
-            counts.placements,
-            counts.looks,
-            counts.reads,
-        ],
-        Err(Refusal { number, place }) => [number, place, 0, 0, 0, 0, 0, 0],
-    }
-}
-
-// How many numbers of an answer are not those expected.
-fn differing_numbers(answer: Result<Run, Fault>, expected: Expected) -> u64 {
-    let given = numbers_of(answer);
-    let wanted = numbers_expected(expected);
-    let pairs = given.iter().zip(&wanted);
-    pairs.filter(|(one, other)| one != other).count() as u64
 }
 
 // How many words of the lists of a run are not as they are to be, where so many nodes have words.
@@ -165,7 +117,7 @@ fn differing_map(starts: u32, arcs: u32, lent: &Lent, reversed: &Lists, old_arcs
 
 // How many numbers and words of a run are not as they are expected, with what the references have left. A refusal fills no word.
 pub fn differences(
-    levels: u32,
+    height: Height,
     case: Case,
     expected: Expected,
     ran: &Ran,
@@ -173,12 +125,13 @@ pub fn differences(
     old_arcs: &OldArcs,
     table: &Table,
 ) -> u64 {
-    let numbers = differing_numbers(ran.answer, expected);
+    let counted = expected.map(|searched| searched.counts);
+    let numbers = answers::differing_numbers(ran.answer, counted);
     let lent = &ran.lent;
     match expected {
         Ok(Searched { counts, differing }) => {
             let n = case.nodes;
-            let cleared = refusals::work_words(levels, n);
+            let cleared = refusals::work_words(height, n);
             let in_map = differing_map(n.wrapping_add(1), case.heads, lent, reversed, old_arcs);
             let in_run = differing_run(u64::from(n), counts.reached, cleared, lent, table);
             words::sum(words::sum(numbers, differing), words::sum(in_map, in_run))

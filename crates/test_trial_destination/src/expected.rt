@@ -3,7 +3,7 @@ use test_reference_destination::refusals::ReversedWords;
 use test_reference_destination::reversed::OldArcs;
 use test_reference_destination::run::Searched;
 use test_reference_destination::{refusals, run};
-use test_reference_map::case::Case;
+use test_reference_map::case::{Case, Height};
 use test_reference_map::map::Lists;
 use test_reference_map::nodes::Table;
 use test_reference_map::refusal::Refusal;
@@ -12,7 +12,7 @@ pub type Expected = Result<Searched, Refusal>;
 
 // The run with one level or with two; the reversed map and the table are filled where it is accepted.
 pub fn run(
-    levels: u32,
+    height: Height,
     case: Case,
     lent: ReversedWords,
     lists: &Lists,
@@ -20,6 +20,6 @@ pub fn run(
     old_arcs: &mut OldArcs,
     table: &mut Table,
 ) -> Expected {
-    refusals::check(levels, case, lent, lists)?;
-    Ok(run::run(levels, case, lists, reversed, old_arcs, table))
+    refusals::check(height, case, lent, lists)?;
+    Ok(run::run(height, case, lists, reversed, old_arcs, table))
 }

@@ -4,18 +4,24 @@ use crate::{beside, edges, expected};
 use test_generated::tallies::Found;
 use test_generated::{lists, tallies};
 use test_reference_destination::refusals::ReversedWords;
-use test_reference_map::case::Case;
+use test_reference_map::case::{Case, Height};
 use test_reference_map::map::Lists;
 use test_reference_map::nodes::Table;
 use test_reference_map::words;
 
 // The run with one level or with two, counted under its number; its differences.
-fn try_run(levels: u32, case: Case, lent: ReversedWords, lists: &Lists, found: &mut Table) -> u64 {
+fn try_run(
+    height: Height,
+    case: Case,
+    lent: ReversedWords,
+    lists: &Lists,
+    found: &mut Table,
+) -> u64 {
     let mut reversed = [lists::MAP; 139296];
     let mut old_arcs = [0u32; 65544];
     let mut table = [0u64; 49152];
     let expected = expected::run(
-        levels,
+        height,
         case,
         lent,
         lists,
@@ -23,9 +29,9 @@ fn try_run(levels: u32, case: Case, lent: ReversedWords, lists: &Lists, found: &
         &mut old_arcs,
         &mut table,
     );
-    let ran = beside::run(levels, case, lent, lists);
+    let ran = beside::run(height, case, lent, lists);
     let differences = beside::differences(
-        levels, case, expected, &ran, &reversed, &old_arcs, &table,
+        height, case, expected, &ran, &reversed, &old_arcs, &table,
     );
     let number = expected.err().map_or(0, |refusal| refusal.number);
     tallies::count(
@@ -60,6 +66,6 @@ pub fn try_map(family: Family, number: u32, found: &mut Table) -> u64 {
         case = edges::put(sound, pair, &mut lists);
         lent = edges::put_reversed(sound, lent, pair);
     }
-    let one = try_run(1, case, lent, &lists, found);
-    words::sum(one, try_run(2, case, lent, &lists, found))
+    let one = try_run(Height::One, case, lent, &lists, found);
+    words::sum(one, try_run(Height::Two, case, lent, &lists, found))
 }

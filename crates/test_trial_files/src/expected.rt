@@ -2,6 +2,7 @@
 use test_reference_counts::recount;
 use test_reference_files::planfile;
 use test_reference_files::printing::Text;
+use test_reference_map::case::Height;
 use test_reference_map::map::Lists;
 use test_reference_map::nodes::Table;
 use test_reference_map::refusal::Refusal;
@@ -31,8 +32,8 @@ pub fn text(
     };
     let case = planfile::case_of(header);
     let reached = dijkstra::search(header.nodes, header.source, lists, table);
-    let one = recount::run(1, case, lists, table);
-    let two = recount::run(2, case, lists, table);
+    let one = recount::run(Height::One, case, lists, table);
+    let two = recount::run(Height::Two, case, lists, table);
     planfile::print_answer(output, header, one, two, table);
     Ok(Taken {
         nodes: header.nodes,

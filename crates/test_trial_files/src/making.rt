@@ -81,51 +81,93 @@ pub fn damaged(number: u32) -> Text {
     damage(whole(number, false), 0, number)
 }
 
-// The kinds of map with holds: by each rule, and last the largest that `plan` takes.
+// The kinds of map with holds: by a rule of test_generated::maps, or the largest that `plan` takes.
+#[derive(Clone, Copy)]
+enum Kind {
+    Rule(u32),
+    Largest,
+}
+
 const KINDS: u32 = 12;
 
-fn map_of(kind: u32, number: u32) -> Map {
-    if kind >= maps::RULES {
-        return Map {
-            nodes: 512,
-            measure: 4,
-            ..maps::small(maps::SAME_DEGREE, number)
-        };
+// By each rule in turn, and last the largest.
+fn kind_of(number: u32) -> Kind {
+    match number % KINDS {
+        maps::RULES => Kind::Largest,
+        rule => Kind::Rule(rule),
     }
-    let map = maps::small(kind, number.wrapping_add(400000));
+}
+
+fn map_by_rule(rule: u32, number: u32) -> Map {
+    let map = maps::small(rule, number.wrapping_add(400000));
     // Where the arcs lead on from node 0, so do the routes.
-    let source = match kind {
+    let source = match rule {
         maps::CHAIN | maps::EQUAL_STAR | maps::DISTINCT_STAR | maps::ALL_DECREASES => 0,
         _ => map.source,
     };
     Map { source, ..map }
 }
 
+fn map_of(kind: Kind, number: u32) -> Map {
+    match kind {
+        Kind::Rule(rule) => map_by_rule(rule, number),
+        Kind::Largest => Map {
+            nodes: 512,
+            measure: 4,
+            ..maps::small(maps::SAME_DEGREE, number)
+        },
+    }
+}
+
 pub fn with_holds(number: u32) -> Text {
     let mut lists = [lists::MAP; 139296];
-    let map = map_of(number % KINDS, number);
+    let map = map_of(kind_of(number), number);
     let case = fill(map, number / KINDS % holds::RULES, &mut lists);
     rendering::render(case, Ending::SixFields, map.nodes, &lists).file
 }
 
 // The first arc of all or the last, the first of the source or its last, or any.
-fn edge_arc(case: Case, kind: u32, word: u64, lists: &Lists) -> u64 {
+#[derive(Clone, Copy)]
+enum EdgeArc {
+    First,
+    Last,
+    FirstOfSource,
+    LastOfSource,
+    Any,
+}
+
+impl EdgeArc {
+    const ALL: [EdgeArc; 5] = [
+        EdgeArc::First,
+        EdgeArc::Last,
+        EdgeArc::FirstOfSource,
+        EdgeArc::LastOfSource,
+        EdgeArc::Any,
+    ];
+}
+
+fn edge_arc(case: Case, which: EdgeArc, word: u64, lists: &Lists) -> u64 {
     let source = u64::from(case.source);
-    match kind {
-        0 => 0,
-        1 => words::minus(u64::from(case.heads), 1),
-        2 => map::start(lists, source),
-        3 => words::minus(map::start(lists, words::sum(source, 1)), 1),
-        _ => u64::from(random::below(word, case.heads)),
+    match which {
+        EdgeArc::First => 0,
+        EdgeArc::Last => words::minus(u64::from(case.heads), 1),
+        EdgeArc::FirstOfSource => map::start(lists, source),
+        EdgeArc::LastOfSource => words::minus(map::start(lists, words::sum(source, 1)), 1),
+        EdgeArc::Any => u64::from(random::below(word, case.heads)),
     }
 }
 
 // A cost with its tail's hold is the ceiling, or one more.
 pub fn with_sum(number: u32) -> Text {
     let mut lists = [lists::MAP; 139296];
-    let map = map_of(number % KINDS, number);
+    let map = map_of(kind_of(number), number);
     let case = fill(map, number / 12 % 4 + 1, &mut lists);
-    let arc = edge_arc(case, number / 48 % 5, map.seed, &lists);
+    let arc = edge_arc(
+        case,
+        EdgeArc::ALL[(number / 48 % 5) as usize],
+        map.seed,
+        &lists,
+    );
     edges::put_sum(case, arc, u64::from(number / 240 % 2), &mut lists);
     rendering::render(case, Ending::SixFields, map.nodes, &lists).file
 }
@@ -197,7 +239,7 @@ pub fn damaged_with_holds(number: u32) -> Text {
     let fault = fault_of(number);
     let i = number / 5;
     let word = random::seed(96, number);
-    let map = map_of(i % maps::RULES, number);
+    let map = map_by_rule(i % maps::RULES, number);
     let whole = fill(map, i / 11 % holds::RULES, &mut lists);
     let case = faulty_case(whole, fault, i, word, &mut lists);
     let ending = match fault {

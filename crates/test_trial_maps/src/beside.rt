@@ -1,11 +1,11 @@
 // A run beside the references: its answer, and every word of the lists lent to it (document 01, "What the planner holds and leaves out").
 use crate::expected::{Expected, Searched};
+use checks::Given;
 use model::{Fault, Node, Run};
-use test_generated::lists;
-use test_reference_map::case::Case;
+use test_generated::{answers, lists};
+use test_reference_map::case::{Case, Height};
 use test_reference_map::map::Lists;
 use test_reference_map::nodes::Table;
-use test_reference_map::refusal::Refusal;
 use test_reference_map::{map, nodes, words};
 use test_reference_search::refusals;
 use theory::Levels;
@@ -30,90 +30,38 @@ pub struct Ran {
 }
 
 // The run with one level or with two; as many words of each list are lent as the case says.
-fn answer_of(levels: u32, case: Case, lists: &Lists, lent: &mut Lent) -> Result<Run, Fault> {
-    let n = case.nodes;
-    let ceiling = case.ceiling;
-    let source = Node(case.source);
-    let starts = lists::part(lists, map::STARTS, case.starts);
-    let heads = lists::part(lists, map::HEADS, case.heads);
-    let costs = lists::part(lists, map::COSTS, case.costs);
-    let holds = lists::part(lists, map::HOLDS, case.holds);
+fn answer_of(height: Height, case: Case, lists: &Lists, lent: &mut Lent) -> Result<Run, Fault> {
+    let given = Given {
+        nodes: case.nodes,
+        ceiling: case.ceiling,
+        source: Node(case.source),
+        starts: lists::part(lists, map::STARTS, case.starts),
+        heads: lists::part(lists, map::HEADS, case.heads),
+        costs: lists::part(lists, map::COSTS, case.costs),
+        holds: lists::part(lists, map::HOLDS, case.holds),
+    };
     let distances = lists::front(&mut lent.distances, case.distances);
     let parents = lists::front(&mut lent.parents, case.parents);
     let roster = lists::front(&mut lent.roster, case.roster);
     let work = lists::front(&mut lent.work, case.work);
-    let kind = match levels {
-        1 => Levels::One,
-        _ => Levels::Two {
+    let kind = match height {
+        Height::One => Levels::One,
+        Height::Two => Levels::Two {
             segments: case.segments,
         },
     };
-    runs::run(
-        kind, n, ceiling, source, starts, heads, costs, holds, distances, parents, roster, work,
-    )
+    runs::run(kind, given, distances, parents, roster, work)
 }
 
-pub fn run(levels: u32, case: Case, lists: &Lists) -> Ran {
+pub fn run(height: Height, case: Case, lists: &Lists) -> Ran {
     let mut lent = Lent {
         distances: [lists::DISTANCES; 4112],
         parents: [lists::PARENTS; 4112],
         roster: [lists::ROSTER; 4112],
         work: [lists::WORK; 16784],
     };
-    let answer = answer_of(levels, case, lists, &mut lent);
+    let answer = answer_of(height, case, lists, &mut lent);
     Ran { answer, lent }
-}
-
-// Number and place, then what a run counts.
-fn numbers_of(answer: Result<Run, Fault>) -> [u64; 8] {
-    match answer {
-        Ok(run) => [
-            0,
-            0,
-            u64::from(run.reached),
-            u64::from(run.buckets),
-            u64::from(run.counts.decreases),
-            u64::from(run.counts.placements),
-            u64::from(run.counts.looks),
-            u64::from(run.counts.reads),
-        ],
-        Err(fault) => {
-            [
-                u64::from(fault.kind.number()),
-                fault.place as u64,
-                0,
-                0,
-                0,
-                0,
-                0,
-                0,
-            ]
-        }
-    }
-}
-
-fn numbers_expected(expected: Expected) -> [u64; 8] {
-    match expected {
-        Ok(Searched { counts, .. }) => [
-            0,
-            0,
-            counts.reached,
-            counts.buckets,
-            counts.decreases,
-            counts.placements,
-            counts.looks,
-            counts.reads,
-        ],
-        Err(Refusal { number, place }) => [number, place, 0, 0, 0, 0, 0, 0],
-    }
-}
-
-// How many numbers of an answer are not those expected.
-fn differing_numbers(answer: Result<Run, Fault>, expected: Expected) -> u64 {
-    let given = numbers_of(answer);
-    let wanted = numbers_expected(expected);
-    let pairs = given.iter().zip(&wanted);
-    pairs.filter(|(one, other)| one != other).count() as u64
 }
 
 // How many words are not as the run is to leave them, where so many are filled: the roster is in the order scanned.
@@ -129,13 +77,20 @@ fn differing_words(n: u64, reached: u64, cleared: u64, lent: &Lent, table: &Tabl
 }
 
 // How many numbers and words of a run are not as they are expected, with the table that the references have left. A refusal fills no word.
-pub fn differences(levels: u32, case: Case, expected: Expected, ran: &Ran, table: &Table) -> u64 {
-    let numbers = differing_numbers(ran.answer, expected);
+pub fn differences(
+    height: Height,
+    case: Case,
+    expected: Expected,
+    ran: &Ran,
+    table: &Table,
+) -> u64 {
+    let counted = expected.map(|searched| searched.counts);
+    let numbers = answers::differing_numbers(ran.answer, counted);
     let lent = &ran.lent;
     match expected {
         Ok(Searched { counts, differing }) => {
             let n = u64::from(case.nodes);
-            let cleared = refusals::work_words(levels, case.nodes);
+            let cleared = refusals::work_words(height, case.nodes);
             let in_lists = differing_words(n, counts.reached, cleared, lent, table);
             words::sum(words::sum(numbers, differing), in_lists)
         }

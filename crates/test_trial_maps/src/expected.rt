@@ -1,6 +1,6 @@
 // What a run is expected to give: its refusal, or by the references its numbers and a table of its nodes.
 use test_reference_counts::recount;
-use test_reference_map::case::{Case, Counts};
+use test_reference_map::case::{Case, Counts, Height};
 use test_reference_map::map::Lists;
 use test_reference_map::nodes::Table;
 use test_reference_map::refusal::Refusal;
@@ -30,13 +30,13 @@ fn all_differing(n: u64, reached: u64, table: &Table) -> u64 {
 }
 
 // The run with one level or with two; the table is filled where it is accepted.
-pub fn run(levels: u32, case: Case, lists: &Lists, table: &mut Table) -> Expected {
-    refusals::check(levels, case, lists)?;
+pub fn run(height: Height, case: Case, lists: &Lists, table: &mut Table) -> Expected {
+    refusals::check(Some(height), case, lists)?;
     let n = u64::from(case.nodes);
     let source = u64::from(case.source);
     let reached = dijkstra::search(n, source, lists, table);
     walks::cheapest(n, source, lists, table);
-    let counts = recount::run(levels, case, lists, table);
+    let counts = recount::run(height, case, lists, table);
     Ok(Searched {
         counts: Counts { reached, ..counts },
         differing: all_differing(n, reached, table),

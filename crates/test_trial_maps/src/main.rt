@@ -9,6 +9,7 @@ use families::Family;
 use std::io;
 use test_generated::tallies::Found;
 use test_generated::{holds, tallies};
+use test_reference_map::case::Height;
 use test_reference_map::nodes::Table;
 use test_reference_map::words;
 
@@ -30,14 +31,14 @@ fn count_if(edge: bool, one: Found, found: &mut Table) -> u64 {
 // Both runs on one map with holds by a rule.
 fn try_both(family: Family, rule: u32, number: u32, found: &mut Table) -> u64 {
     let edge = families::at_edge(rule);
-    let one = trials::try_map(family, rule, 1, number);
-    let two = trials::try_map(family, rule, 2, number);
+    let one = trials::try_map(family, rule, Height::One, number);
+    let two = trials::try_map(family, rule, Height::Two, number);
     words::sum(count_if(edge, one, found), count_if(edge, two, found))
 }
 
 fn try_both_edges(number: u32, found: &mut Table) -> u64 {
-    let one = trials::try_edge(1, number);
-    let two = trials::try_edge(2, number);
+    let one = trials::try_edge(Height::One, number);
+    let two = trials::try_edge(Height::Two, number);
     let differences = tallies::count(found, one);
     words::sum(differences, tallies::count(found, two))
 }
@@ -45,7 +46,7 @@ fn try_both_edges(number: u32, found: &mut Table) -> u64 {
 // Routes by the parents of a run on a map with holds by one rule after the other.
 fn try_damaged(number: u32) -> u64 {
     let rule = number % holds::RULES;
-    let one = trials::try_map(Family::DamagedParents, rule, 1, number);
+    let one = trials::try_map(Family::DamagedParents, rule, Height::One, number);
     one.differences
 }
 

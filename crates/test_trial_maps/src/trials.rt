@@ -4,7 +4,7 @@ use crate::families::Family;
 use crate::{beside, damaged, expected, routes_beside};
 use test_generated::tallies::Found;
 use test_generated::{case, edges, holds, lists, maps, random};
-use test_reference_map::case::Case;
+use test_reference_map::case::{Case, Height};
 use test_reference_map::map::Lists;
 use test_reference_map::nodes::Table;
 use test_reference_map::words;
@@ -20,16 +20,16 @@ fn try_routes(family: Family, case: Case, seed: u64, lists: &Lists, table: &mut 
 }
 
 // A run on the map of a number of a family with holds by a rule, then routes by its parents, which the table has too.
-pub fn try_map(family: Family, rule: u32, levels: u32, number: u32) -> Found {
+pub fn try_map(family: Family, rule: u32, height: Height, number: u32) -> Found {
     let mut lists = [lists::MAP; 139296];
     let mut table = [0u64; 49152];
     let map = family.map_of(number);
     let arcs = maps::fill(map, &mut lists);
     let sound = case::of_map(map, arcs, family.spare(number));
     let case = family.with_holds(rule, map, sound, &mut lists);
-    let expected = expected::run(levels, case, &lists, &mut table);
-    let ran = beside::run(levels, case, &lists);
-    let run = beside::differences(levels, case, expected, &ran, &table);
+    let expected = expected::run(height, case, &lists, &mut table);
+    let ran = beside::run(height, case, &lists);
+    let run = beside::differences(height, case, expected, &ran, &table);
     let shape = family.shape_fault(rule, case, expected);
     let mut differences = words::sum(shape, run);
     if expected.is_ok() {
@@ -63,16 +63,16 @@ fn with_edges(case: Case, number: u32, seed: u64, lists: &mut Lists) -> Case {
 }
 
 // The run on a small map with edges in it.
-pub fn try_edge(levels: u32, number: u32) -> Found {
+pub fn try_edge(height: Height, number: u32) -> Found {
     let mut lists = [lists::MAP; 139296];
     let mut table = [0u64; 49152];
     let small = small_case(number, &mut lists);
     let case = with_edges(small, number, random::seed(99, number), &mut lists);
-    let expected = expected::run(levels, case, &lists, &mut table);
-    let ran = beside::run(levels, case, &lists);
+    let expected = expected::run(height, case, &lists, &mut table);
+    let ran = beside::run(height, case, &lists);
     Found {
         number: number_of(expected),
-        differences: beside::differences(levels, case, expected, &ran, &table),
+        differences: beside::differences(height, case, expected, &ran, &table),
     }
 }
 
@@ -107,9 +107,9 @@ pub fn try_route_edge(number: u32) -> Found {
     let mut table = [0u64; 49152];
     let seed = random::seed(98, number);
     let small = small_case(number, &mut lists);
-    let expected = expected::run(1, small, &lists, &mut table);
-    let ran = beside::run(1, small, &lists);
-    let run = beside::differences(1, small, expected, &ran, &table);
+    let expected = expected::run(Height::One, small, &lists, &mut table);
+    let ran = beside::run(Height::One, small, &lists);
+    let run = beside::differences(Height::One, small, expected, &ran, &table);
     if number % 2 == 0 {
         damaged::damage(small, seed, &mut table);
     }

@@ -1,10 +1,11 @@
 // A map written beside the plain writer: the numbers of the answer, every byte of the file, those before and behind it, and the file read back.
 use crate::families::Family;
 use crate::read_back;
+use checks::Given;
 use model::{Fault, Node};
 use test_generated::tallies::Found;
 use test_generated::{lists, random, tallies};
-use test_reference_map::case::Case;
+use test_reference_map::case::{Case, Height};
 use test_reference_map::map::Lists;
 use test_reference_map::nodes::Table;
 use test_reference_map::refusal::{Refusal, refuse};
@@ -48,17 +49,16 @@ fn differing_bytes(file: &[u8], plain: &[u8]) -> u64 {
 }
 
 fn write(case: Case, lists: &Lists, bytes: &mut [u8]) -> Result<usize, Fault> {
-    writer::write(
-        case.nodes,
-        case.ceiling,
-        Node(case.source),
-        case.segments,
-        lists::part(lists, map::STARTS, case.starts),
-        lists::part(lists, map::HEADS, case.heads),
-        lists::part(lists, map::COSTS, case.costs),
-        lists::part(lists, map::HOLDS, case.holds),
-        bytes,
-    )
+    let given = Given {
+        nodes: case.nodes,
+        ceiling: case.ceiling,
+        source: Node(case.source),
+        starts: lists::part(lists, map::STARTS, case.starts),
+        heads: lists::part(lists, map::HEADS, case.heads),
+        costs: lists::part(lists, map::COSTS, case.costs),
+        holds: lists::part(lists, map::HOLDS, case.holds),
+    };
+    writer::write(given, case.segments, bytes)
 }
 
 // A write into so many bytes of a buffer.
@@ -106,7 +106,7 @@ fn try_case(
     buffer: &mut [u8],
     found: &mut Table,
 ) -> u64 {
-    let checked = refusals::check(2, case, lists);
+    let checked = refusals::check(Some(Height::Two), case, lists);
     let length = match checked {
         Ok(()) => test_reference_writing::write(text, case, lists),
         Err(_) => 0,

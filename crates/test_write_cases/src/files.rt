@@ -1,6 +1,7 @@
 // The rows that have a file read and what it tells written: a planning file, and a road file with C, source and K of the row (document 02,
 // papers 1 and 5).
 use crate::printing::print_text;
+use checks::Given;
 use dimacs::RoadSize;
 use model::{Fault, Node};
 use reader::PlanHeader;
@@ -38,17 +39,17 @@ fn lists_with(holds: [u32; 64]) -> Lists {
 }
 
 fn write(told: Told, lists: &Lists, buffer: &mut [u8]) -> Result<usize, Fault> {
-    writer::write(
-        told.nodes,
-        told.ceiling,
-        Node(told.source),
-        told.segments,
-        part(&lists.starts, 0, told.nodes.wrapping_add(1)),
-        part(&lists.heads, 0, told.arcs),
-        part(&lists.costs, 0, told.arcs),
-        part(&lists.holds, 0, told.nodes),
-        test_buffers::lent(buffer, told.room as usize),
-    )
+    let given = Given {
+        nodes: told.nodes,
+        ceiling: told.ceiling,
+        source: Node(told.source),
+        starts: part(&lists.starts, 0, told.nodes.wrapping_add(1)),
+        heads: part(&lists.heads, 0, told.arcs),
+        costs: part(&lists.costs, 0, told.arcs),
+        holds: part(&lists.holds, 0, told.nodes),
+    };
+    let bytes = test_buffers::lent(buffer, told.room as usize);
+    writer::write(given, told.segments, bytes)
 }
 
 // What was read of a planning file, unless it was refused.

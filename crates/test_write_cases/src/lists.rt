@@ -1,5 +1,6 @@
 // The rows that have the map's lists written.
 use crate::printing::{print_sums, print_text};
+use checks::Given;
 use model::{Fault, Node};
 use std::io;
 use test_rows::map::{COSTS, HEADS, HOLDS, part};
@@ -7,17 +8,16 @@ use test_rows::rows::Row;
 
 fn write(row: Row, map: &[u32], buffer: &mut [u8]) -> Result<usize, Fault> {
     test_buffers::fill(buffer);
-    writer::write(
-        row.n1,
-        row.n2,
-        Node(row.n3),
-        row.n4,
-        part(map, 0, row.n5),
-        part(map, HEADS, row.n6),
-        part(map, COSTS, row.n7),
-        part(map, HOLDS, row.n8),
-        test_buffers::lent(buffer, row.n9 as usize),
-    )
+    let given = Given {
+        nodes: row.n1,
+        ceiling: row.n2,
+        source: Node(row.n3),
+        starts: part(map, 0, row.n5),
+        heads: part(map, HEADS, row.n6),
+        costs: part(map, COSTS, row.n7),
+        holds: part(map, HOLDS, row.n8),
+    };
+    writer::write(given, row.n4, test_buffers::lent(buffer, row.n9 as usize))
 }
 
 // Row: text N,C,SOURCE,K STARTS,HEADS,COSTS,HOLDS BYTES

@@ -2,13 +2,14 @@
 #![tactic(auto)]
 
 ghost use Rattle.std.specs.Prelude.{◌≡◌};
-ghost use Rattle.theory.specs.Runs.{inputs};
+ghost use Rattle.checks.specs.Given.{inputs_of};
 ghost use Rattle.plan_text.specs.Rendering.{all_zero};
 ghost use Rattle.plan_text.specs.Files.{plan_file};
 ghost use Rattle.plan_writing.specs.Texts.{TextLines, text_of};
 ghost use Rattle.writer.specs.Promise.{Writable, TextAnswered, WritePromised};
 
-use model::{Fault, Node};
+use checks::Given;
+use model::Fault;
 
 fn all_zero(holds: &[u32]) -> bool
     ensures { result ≡ all_zero holds.now }
@@ -42,46 +43,41 @@ fn write_text(
 }
 
 // Six fields and the lines of the holds, unless all holds are 0.
-fn write_map(
-    n: u32,
-    ceiling: u32,
-    source: Node,
-    segments: u32,
-    starts: &[u32],
-    heads: &[u32],
-    costs: &[u32],
-    holds: &[u32],
-    bytes: &mut [u8],
-) -> Result<usize, Fault>
-    requires { Writable (inputs n ceiling source.0 starts.now heads.now costs.now holds.now) segments }
-    ensures { TextAnswered (plan_file (inputs n ceiling source.0 starts.now heads.now costs.now holds.now) segments)
+fn write_map<'a>(given: Given<'a>, segments: u32, bytes: &mut [u8]) -> Result<usize, Fault>
+    requires { Writable (inputs_of given) segments }
+    ensures { TextAnswered (plan_file (inputs_of given.entry) segments)
         bytes.old bytes.new result }
 {
-    let arcs = heads.len() as u32;
-    let first = [n, arcs, ceiling, source.0, segments, 1];
-    if all_zero(holds) {
-        return write_text(&first[..5], n, starts, heads, costs, &holds[..0], bytes);
+    let arcs = given.heads.len() as u32;
+    let source = given.source.0;
+    let first = [given.nodes, arcs, given.ceiling, source, segments, 1];
+    if all_zero(given.holds) {
+        return write_text(
+            &first[..5],
+            given.nodes,
+            given.starts,
+            given.heads,
+            given.costs,
+            &given.holds[..0],
+            bytes,
+        );
     }
-    write_text(&first, n, starts, heads, costs, holds, bytes)
+    write_text(
+        &first,
+        given.nodes,
+        given.starts,
+        given.heads,
+        given.costs,
+        given.holds,
+        bytes,
+    )
 }
 
-pub fn write(
-    n: u32,
-    ceiling: u32,
-    source: Node,
-    segments: u32,
-    starts: &[u32],
-    heads: &[u32],
-    costs: &[u32],
-    holds: &[u32],
-    bytes: &mut [u8],
-) -> Result<usize, Fault>
-    ensures { WritePromised (inputs n ceiling source.0 starts.now heads.now costs.now holds.now) segments
+pub fn write<'a>(given: Given<'a>, segments: u32, bytes: &mut [u8]) -> Result<usize, Fault>
+    ensures { WritePromised (inputs_of given.entry) segments
         bytes.old bytes.new result }
 {
-    checks::map_check(n, ceiling, source, starts, heads, costs, holds)?;
+    checks::map_check(given)?;
     check_numbers::segments_check(segments)?;
-    write_map(
-        n, ceiling, source, segments, starts, heads, costs, holds, bytes,
-    )
+    write_map(given, segments, bytes)
 }

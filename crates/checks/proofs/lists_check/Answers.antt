@@ -13,9 +13,9 @@ use Rattle.checks.proofs.lists_check.Goals as goal
 pub returns-in_err-size_check : goal.returns-in_err-size_check
 unfolding lists_checks
 returns-in_err-size_check c =
-    let words : List Check = starts_check c.args.n (length c.args.heads.now) c.args.starts.now
-    ∷ holds_check c.args.n c.args.ceiling c.args.holds.now
-    ∷ heads_check c.args.n c.args.heads.now
+    let words : List Check = starts_check c.args.given.nodes (length c.args.given.heads.now) c.args.given.starts.now
+    ∷ holds_check c.args.given.nodes c.args.given.ceiling c.args.given.holds.now
+    ∷ heads_check c.args.given.nodes c.args.given.heads.now
     ∷ [] in
     let same : c.from_residual.result ≡ c.size_check.result = search rules in
     same ∙ stopped _ words c.size_check.ensures c.in_err-size_check.was

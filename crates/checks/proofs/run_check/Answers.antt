@@ -25,5 +25,5 @@ returns c =
     gone_on _ (sym c.map_check.ensures ∙ c.in_ok-map_check.was)
     (record {
       is = gone_on (levels_checks c.args.levels) (sym c.levels_check.ensures ∙ c.in_ok-levels_check.was)
-          (record { is = rw c.work_words.ensures at c.run_lists_check.ensures });
+          (record { is = rw c.work_words-needed.ensures at c.run_lists_check.ensures });
     })

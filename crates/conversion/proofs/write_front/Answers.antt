@@ -12,21 +12,21 @@ use Rattle.conversion.proofs.write_front.Goals as goal
 pub returns-in-Ok : goal.returns-in-Ok
 returns-in-Ok c =
     front_written c.args.nodes c.args.arcs c.args.ceiling c.args.source.0 c.args.starts.now c.args.heads.now c.args.costs.now
-    c.requires.nodes_fit c.args.segments c.write-answer.ensures c.in-Ok.is
+    c.requires.nodes_fit c.args.segments c.write.ensures c.in-Ok.is
 
 pub returns-in-Err : goal.returns-in-Err
 returns-in-Err c =
     front_refused c.args.nodes c.args.arcs c.args.ceiling c.args.source.0 c.args.starts.now c.args.heads.now c.args.costs.now
-    c.requires.nodes_fit c.args.segments c.write-answer.ensures c.in-Err.is c.write_refusal.ensures
+    c.requires.nodes_fit c.args.segments c.write.ensures c.in-Err.is c.write_refusal.ensures
 
-pub slice_bounds-write-end : goal.slice_bounds-write-end
-slice_bounds-write-end c = sym (length-take-le _ _ (search rules))
+pub slice_bounds-given-end : goal.slice_bounds-given-end
+slice_bounds-given-end c = sym (length-take-le _ _ (search rules))
 
-pub slice_bounds-write-end-2 : goal.slice_bounds-write-end-2
-slice_bounds-write-end-2 c = sym (length-take-le _ _ (search rules))
+pub slice_bounds-given-end-2 : goal.slice_bounds-given-end-2
+slice_bounds-given-end-2 c = sym (length-take-le _ _ (search rules))
 
-pub slice_bounds-write-end-3 : goal.slice_bounds-write-end-3
-slice_bounds-write-end-3 c = sym (length-take-le _ _ (search rules))
+pub slice_bounds-given-end-3 : goal.slice_bounds-given-end-3
+slice_bounds-given-end-3 c = sym (length-take-le _ _ (search rules))
 
-pub slice_bounds-write-end-4 : goal.slice_bounds-write-end-4
-slice_bounds-write-end-4 c = sym (length-take-le _ _ (omega (arith, length-replicate {A = ℕ} 512 0, c.requires.nodes_fit)))
+pub slice_bounds-given-end-4 : goal.slice_bounds-given-end-4
+slice_bounds-given-end-4 c = sym (length-take-le _ _ (omega (arith, length-replicate {A = ℕ} 512 0, c.requires.nodes_fit)))

@@ -5,14 +5,14 @@ use Rattle.destination.proofs.run_back.Goals as goal
 pub reverse-requires : goal.reverse-requires
 reverse-requires c = reversible _ c.requires
 
-pub slice_bounds-run_steps-end-2 : goal.slice_bounds-run_steps-end-2
-slice_bounds-run_steps-end-2 c = starts_part _ c.requires (c.reverse.ensures _)
+pub slice_bounds-back-end-2 : goal.slice_bounds-back-end-2
+slice_bounds-back-end-2 c = starts_part _ c.requires (c.reverse.ensures _)
 
-pub slice_bounds-run_steps-end-4 : goal.slice_bounds-run_steps-end-4
-slice_bounds-run_steps-end-4 c = heads_part _ c.requires (c.reverse.ensures _)
+pub slice_bounds-back-end-4 : goal.slice_bounds-back-end-4
+slice_bounds-back-end-4 c = heads_part _ c.requires (c.reverse.ensures _)
 
-pub slice_bounds-run_steps-end-6 : goal.slice_bounds-run_steps-end-6
-slice_bounds-run_steps-end-6 c = costs_part _ c.requires (c.reverse.ensures _)
+pub slice_bounds-back-end-6 : goal.slice_bounds-back-end-6
+slice_bounds-back-end-6 c = costs_part _ c.requires (c.reverse.ensures _)
 
 pub run_steps-run-requires : goal.run_steps-run-requires
 run_steps-run-requires c = ready_given _ c.requires (c.reverse.ensures _)

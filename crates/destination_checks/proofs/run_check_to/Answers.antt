@@ -26,8 +26,8 @@ pub returns-in_err-run_lists_check : goal.returns-in_err-run_lists_check
 unfolding lent_checks checks_to
 returns-in_err-run_lists_check c =
     let same : c.from_residual-in_err-run_lists_check.result ≡ c.run_lists_check.result = search rules in
-    let lent = lent_checks 0 (run_lists c.args.n (lengths_for c.args.distances c.args.parents c.args.roster c.args.work) (work_words c.args.levels c.args.n)) in
-    let working = lent_checks 4 (reversed_lists c.args.n (length c.args.heads.now) c.args.reversed_starts c.args.reversed_heads c.args.reversed_costs c.args.old_arcs) in
+    let lent = lent_checks 0 (run_lists c.args.given.nodes (lengths_for c.args.distances c.args.parents c.args.roster c.args.work) (work_words c.args.levels c.args.given.nodes)) in
+    let working = lent_checks 4 (reversed_lists c.args.given.nodes (length c.args.given.heads.now) c.args.reversed_starts c.args.reversed_heads c.args.reversed_costs c.args.old_arcs) in
     same
     ∙ gone_on _ (sym c.map_check.ensures ∙ c.in_ok-map_check.was)
     (record {
@@ -38,7 +38,7 @@ returns-in_err-run_lists_check c =
 pub returns : goal.returns
 unfolding lent_checks checks_to
 returns c =
-    let lent = lent_checks 0 (run_lists c.args.n (lengths_for c.args.distances c.args.parents c.args.roster c.args.work) (work_words c.args.levels c.args.n)) in
+    let lent = lent_checks 0 (run_lists c.args.given.nodes (lengths_for c.args.distances c.args.parents c.args.roster c.args.work) (work_words c.args.levels c.args.given.nodes)) in
     gone_on _ (sym c.map_check.ensures ∙ c.in_ok-map_check.was)
     (record {
       is = gone_on (levels_checks c.args.levels) (sym c.levels_check.ensures ∙ c.in_ok-levels_check.was)

@@ -17,14 +17,14 @@ returns-in-Ok c = run_listed c.requires.map_runnable _ c.run-run.ensures c.write
 pub returns-in-Err : goal.returns-in-Err
 returns-in-Err c = absurd (never_refused c.requires.map_runnable.accepted (rw c.in-Err.is at c.run-run.ensures))
 
-pub slice_bounds-map_starts-end : goal.slice_bounds-map_starts-end
-slice_bounds-map_starts-end c = sym (length-take-le _ _ c.requires.map_runnable.starts_fit)
+pub slice_bounds-given-end : goal.slice_bounds-given-end
+slice_bounds-given-end c = sym (length-take-le _ _ c.requires.map_runnable.starts_fit)
 
-pub slice_bounds-map_heads-end : goal.slice_bounds-map_heads-end
-slice_bounds-map_heads-end c = sym (length-take-le _ _ c.requires.map_runnable.heads_fit)
+pub slice_bounds-given-end-2 : goal.slice_bounds-given-end-2
+slice_bounds-given-end-2 c = sym (length-take-le _ _ c.requires.map_runnable.heads_fit)
 
-pub slice_bounds-map_costs-end : goal.slice_bounds-map_costs-end
-slice_bounds-map_costs-end c = sym (length-take-le _ _ c.requires.map_runnable.costs_fit)
+pub slice_bounds-given-end-3 : goal.slice_bounds-given-end-3
+slice_bounds-given-end-3 c = sym (length-take-le _ _ c.requires.map_runnable.costs_fit)
 
-pub slice_bounds-map_holds-end : goal.slice_bounds-map_holds-end
-slice_bounds-map_holds-end c = sym (length-take-le _ _ c.requires.map_runnable.holds_fit)
+pub slice_bounds-given-end-4 : goal.slice_bounds-given-end-4
+slice_bounds-given-end-4 c = sym (length-take-le _ _ c.requires.map_runnable.holds_fit)

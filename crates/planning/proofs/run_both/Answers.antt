@@ -23,17 +23,17 @@ returns c =
     (omega (arith, c.run.auto.distances)) (omega (arith, c.run.auto.parents)) (omega (arith, c.run.auto.roster)) (omega (arith, c.run.auto.work))
     c.requires.one_level.accepted (rw c.in_ok-one.was at c.run.ensures) (rw c.in_ok-two.was at c.run-2.ensures)
 
-pub slice_bounds-map_starts-end : goal.slice_bounds-map_starts-end
-slice_bounds-map_starts-end c = sym (length-take-le _ _ c.requires.one_level.starts_fit)
+pub slice_bounds-given-end : goal.slice_bounds-given-end
+slice_bounds-given-end c = sym (length-take-le _ _ c.requires.one_level.starts_fit)
 
-pub slice_bounds-map_heads-end : goal.slice_bounds-map_heads-end
-slice_bounds-map_heads-end c = sym (length-take-le _ _ c.requires.one_level.heads_fit)
+pub slice_bounds-given-end-2 : goal.slice_bounds-given-end-2
+slice_bounds-given-end-2 c = sym (length-take-le _ _ c.requires.one_level.heads_fit)
 
-pub slice_bounds-map_costs-end : goal.slice_bounds-map_costs-end
-slice_bounds-map_costs-end c = sym (length-take-le _ _ c.requires.one_level.costs_fit)
+pub slice_bounds-given-end-3 : goal.slice_bounds-given-end-3
+slice_bounds-given-end-3 c = sym (length-take-le _ _ c.requires.one_level.costs_fit)
 
-pub slice_bounds-map_holds-end : goal.slice_bounds-map_holds-end
-slice_bounds-map_holds-end c = sym (length-take-le _ _ c.requires.one_level.holds_fit)
+pub slice_bounds-given-end-4 : goal.slice_bounds-given-end-4
+slice_bounds-given-end-4 c = sym (length-take-le _ _ c.requires.one_level.holds_fit)
 
 pub shape_of-distances : goal.shape_of-distances
 shape_of-distances c = omega (arith, c.run-2.auto.distances, c.run.auto.distances)
