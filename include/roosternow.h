@@ -232,7 +232,7 @@ uint32_t roosternow_version(void);
  *   order. The words from roster[r] on are as they were. The ROOSTERNOW_WORK_ONE_LEVEL(n) first work words are 0. numbers: 0, 0, r, B,
  *   decreases, placements, looks, reads.
  * Refuses: 1 to 6, 20, 7, 8, then 10 with place 0 distances, 1 parents, 2 roster, 3 work; in this order, the first found.
- * Costs: time in proportion to n + m + r * B at most; stack below 4 KB.
+ * Costs: time in proportion to n + m + r * B at most; stack below 2 KB.
  */
 void roosternow_one_level(uint32_t n, uint32_t ceiling, uint32_t source,
                           const uint32_t *starts, size_t starts_words,
@@ -288,7 +288,7 @@ void roosternow_two_level(uint32_t n, uint32_t ceiling, uint32_t source, uint32_
  * Refuses: 1, 2, 3 (the destination), 4 to 6, 20, 7, 8 with the least arc whose cost is above C together with the hold of its head, then 10
  *   with place 0 distances, 1 parents, 2 roster, 3 work, 4 reversed_starts, 5 reversed_heads, 6 reversed_costs, 7 old_arcs; in this order, the
  *   first found.
- * Costs: time as roosternow_one_level, with the reversed map made before, in proportion to n + m; stack below 4 KB.
+ * Costs: time as roosternow_one_level, with the reversed map made before, in proportion to n + m; stack below 2 KB.
  */
 void roosternow_one_level_to(uint32_t n, uint32_t ceiling, uint32_t destination,
                              const uint32_t *starts, size_t starts_words,

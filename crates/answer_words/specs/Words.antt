@@ -1,11 +1,15 @@
 -- The numbers of each answer as words (document 01, "What a call returns").
-use Rattle.std.specs.Prelude.{ℕ, List, [], ◌∷◌}
+use Rattle.std.specs.Prelude.{ℕ, ◌-◌, List, [], ◌∷◌, replicate}
 use Rattle.model.specs.declared.Counts.{Counts}
 use Rattle.model.specs.Answers.{Numbers}
 use Rattle.route.specs.Routes.{RouteNumbers}
 use Rattle.reader.specs.Promise.{PlanNumbers}
 use Rattle.dimacs.specs.Promise.{DimacsNumbers}
 use Rattle.writer.specs.Promise.{WriteNumbers}
+
+-- Number and place of what is refused, then zeros, `count` words in all (document 01, "What a call returns").
+abbrev pub refused_words : (count number place : ℕ) → List ℕ
+refused_words count number place = number ∷ place ∷ replicate (count - 2) 0
 
 -- The counts: decreases, placements, looks and reads (document 01, "The tallies"; document 02, paper 3).
 abbrev pub counts_as_words : Counts → List ℕ

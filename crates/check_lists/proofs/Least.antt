@@ -5,10 +5,28 @@ use Prim.Native.Nat.{ℕ, zero, suc, ◌+◌, ◌-◌, ◌≤◌, ◌<◌}
 use native.Mathlib.Nat.{add-zero, zero-add}
 use native.Mathlib.Omega.{arith}
 use Rattle.model.specs.declared.Kind.{Kind}
-use Rattle.std.specs.Prelude.{Ok, Err}
+use Rattle.std.specs.Prelude.{None, Some, Ok, Err}
 use Rattle.model.specs.Answers.{fault_of}
 use Rattle.model.specs.declared.Fault.{Fault}
-use Rattle.check_lists.specs.Lists.{least_fault}
+use Rattle.check_lists.specs.Lists.{least_failing, least_fault}
+
+-- A pass over the indices from i up to but not including `last`, by the place alone.
+module _ (fails : ℕ → Bool) where
+  pub none_found : (i last : ℕ) → last ≤ i → least_failing fails i (last - i) ≡ None
+  unfolding least_failing
+  none_found i last past = let e : last - i ≡ 0 = omega arith in rw e
+
+  module _ (i last : ℕ) (low : i < last) where
+    pub found_here : fails i ≡ true → least_failing fails i (last - i) ≡ Some i
+    unfolding least_failing
+    found_here f = let e : last - i ≡ suc (last - (i + 1)) = omega arith in rw (e, f)
+
+    pub found_behind : fails i ≡ false → least_failing fails i (last - i) ≡ least_failing fails (i + 1) (last - (i + 1))
+    unfolding least_failing
+    found_behind f =
+        let e : last - i ≡ suc (last - (i + 1)) = omega arith in
+        let next : i + 1 ≡ suc i = omega arith in
+        rw (e, f, next)
 
 module _ (kind : Kind) (fails : ℕ → Bool) where
   -- ---- all pass, or what it says that all passed
@@ -38,6 +56,30 @@ module _ (kind : Kind) (fails : ℕ → Bool) where
 
   pub passed_each : (count k : ℕ) → least_fault kind fails 0 count ≡ Ok tt → k < count → fails k ≡ false
   passed_each count k e l = rw zero-add at (from_passed 0 count k e l)
+
+  -- ---- the place alone, and the fault there
+
+  pub fault_found : {place : ℕ} (i left : ℕ) → least_failing fails i left ≡ Some place → least_fault kind fails i left ≡ Err (fault_of kind place)
+  unfolding least_failing least_fault
+  fault_found i zero e = cc
+  fault_found {place} i (suc left) e = go (fails i) e (fault_found (suc i) left)
+    where
+      go : (t : Bool) → cond t (Some i) (least_failing fails (suc i) left) ≡ Some place
+          → (least_failing fails (suc i) left ≡ Some place → least_fault kind fails (suc i) left ≡ Err (fault_of kind place))
+          → cond t (Err (fault_of kind i)) (least_fault kind fails (suc i) left) ≡ Err (fault_of kind place)
+      go true e next = cc
+      go false e next = next e
+
+  pub no_fault_found : (i left : ℕ) → least_failing fails i left ≡ None → least_fault kind fails i left ≡ Ok tt
+  unfolding least_failing least_fault
+  no_fault_found i zero e = refl
+  no_fault_found i (suc left) e = go (fails i) e (no_fault_found (suc i) left)
+    where
+      go : (t : Bool) → cond t (Some i) (least_failing fails (suc i) left) ≡ None
+          → (least_failing fails (suc i) left ≡ None → least_fault kind fails (suc i) left ≡ Ok tt)
+          → cond t (Err (fault_of kind i)) (least_fault kind fails (suc i) left) ≡ Ok tt
+      go true e next = cc
+      go false e next = next e
 
   -- ---- a pass over the indices from i up to but not including `last`
 

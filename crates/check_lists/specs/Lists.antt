@@ -1,12 +1,17 @@
 -- Numbers 6, 7 and 20, each of which looks at every word of one list (document 01, "What a call returns"; document 02, paper 2).
-use Rattle.std.specs.Prelude.{ℕ, zero, suc, ◌+◌, ◌-◌, ◌≤◌, ◌<◌, Bool, cond, not, ◌&&◌, ◌||◌, List, ltb, leb, eqb, length, get_or, Ok, Err}
+use Rattle.std.specs.Prelude.{ℕ, zero, suc, ◌+◌, ◌-◌, ◌≤◌, ◌<◌, Bool, cond, not, ◌&&◌, ◌||◌, List, ltb, leb, eqb, length, get_or, Option, None, Some, Ok, Err}
 use Rattle.model.specs.Answers.{Check, fault_of}
 use Rattle.model.specs.declared.Kind.{Kind}
 use Rattle.model.specs.declared.Kind.TheVariants.{Starts, Head, Hold}
 
 -- ---- what the checks are made of
 
--- A test of each index, `left` of them from i on: the least that fails is the place (document 01, "What a call returns").
+-- A test of each index, `left` of them from i on: the least that fails (document 01, "What a call returns").
+unfoldable pub least_failing : (fails : ℕ → Bool) → (i left : ℕ) → Option ℕ
+least_failing fails i zero = None
+least_failing fails i (suc left) = cond (fails i) (Some i) (least_failing fails (suc i) left)
+
+-- The same test: the least index that fails is the place (document 01, "What a call returns").
 unfoldable pub least_fault : Kind → (fails : ℕ → Bool) → (i left : ℕ) → Check
 least_fault kind fails i zero = Ok tt
 least_fault kind fails i (suc left) = cond (fails i) (Err (fault_of kind i)) (least_fault kind fails (suc i) left)

@@ -1,7 +1,7 @@
 // Words above a limit, as of numbers 7, 8 and 20 (document 01, "What a call returns"; document 02, paper 2). A pass that only gathers
 // whether there is one compiles to packed instructions; its index is looked for only then.
 ghost use Rattle.std.specs.Prelude.{◌≡◌, false, ◌-◌, ◌≤◌, ◌<◌, length};
-ghost use Rattle.check_lists.specs.Lists.{NoneAbove, least_fault, word_above, above_check, heads_check, holds_check};
+ghost use Rattle.check_lists.specs.Lists.{NoneAbove, least_failing, least_fault, word_above, above_check, heads_check, holds_check};
 
 use model::{Fault, Kind};
 
@@ -55,10 +55,21 @@ pub fn least_above(
     requires { last ≤ length words.now }
     ensures { result ≡ least_fault kind (word_above limit words.now) first (last - first) }
 {
+    match first_above(limit, words, first, last) {
+        Some(place) => Err(Fault { kind, place }),
+        None => Ok(()),
+    }
+}
+
+// The place alone, for a fault of any number (document 01, "What a call returns").
+pub fn first_above(limit: u32, words: &[u32], first: usize, last: usize) -> Option<usize>
+    requires { last ≤ length words.now }
+    ensures { result ≡ least_failing (word_above limit words.now) first (last - first) }
+{
     for i in first..last {
         if words[i] > limit {
-            return Err(Fault { kind, place: i });
+            return Some(i);
         }
     }
-    Ok(())
+    None
 }

@@ -68,6 +68,8 @@ fn reversed_lists_check(
     check_numbers::lent_check(7, old_arcs, arcs)
 }
 
+// Not inlined: its frame is gone before the run begins, and together with the run it took an SSE register more than the header tells of.
+#[inline(never)]
 pub fn run_check_to<'a>(
     levels: Levels,
     given: Given<'a>,

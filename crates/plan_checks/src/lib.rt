@@ -1,7 +1,7 @@
 // The checks of a planning file in their order; no word is written here (document 01, "What a call returns"; document 02, paper 2).
 #![tactic(auto)]
 
-ghost use Rattle.std.specs.Prelude.{◌≡◌, ◌++◌, ◌≤◌, true, length, drop};
+ghost use Rattle.std.specs.Prelude.{◌≡◌, ◌++◌, ◌≤◌, true, not, eqb, length, drop};
 ghost use Rattle.checks.specs.Checks.{first_fault};
 ghost use Rattle.plan_lines.specs.Told.{lines_arcs};
 ghost use Rattle.plan_checks.specs.Checking.{left_over_check, behind_checks, lines_checks, header_checks, ArcsPassed};
@@ -13,7 +13,7 @@ use model::{Fault, Kind, Node};
 mod arcs;
 mod holds;
 
-// What line 1 tells and the lists lent for it, then the lines behind it.
+// What line 1 tells and the lists lent for it, then the lines behind it. Holds are told where `held` is not 0.
 pub fn plan_check(
     bytes: &[u8],
     at: usize,
@@ -22,7 +22,7 @@ pub fn plan_check(
     ceiling: u32,
     source: Node,
     segments: u32,
-    held: bool,
+    held: u32,
     starts: usize,
     heads: usize,
     costs: usize,
@@ -30,12 +30,12 @@ pub fn plan_check(
 ) -> Result<(), Fault>
     requires { at ≤ length bytes.now }
     ensures { result ≡ first_fault (header_checks n arcs ceiling source.0 segments starts heads costs holds
-        ++ lines_checks n arcs ceiling held (drop at bytes.now)) }
+        ++ lines_checks n arcs ceiling (not (eqb held 0)) (drop at bytes.now)) }
 {
     header_check(
         n, arcs, ceiling, source, segments, starts, heads, costs, holds,
     )?;
-    lines_check(bytes, at, n, arcs, ceiling, held)
+    lines_check(bytes, at, n, arcs, ceiling, held != 0)
 }
 
 fn header_check(

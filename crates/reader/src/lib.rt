@@ -61,7 +61,7 @@ fn read_lines(
         line.ceiling,
         source,
         line.segments,
-        line.held,
+        line.held as u32,
         starts.len(),
         heads.len(),
         costs.len(),

@@ -3,10 +3,8 @@
 use Rattle.std.specs.Prelude.{ℕ, ◌+◌, ◌*◌, ◌≡◌, List}
 use Rattle.model.specs.Answers.{RunAnswer, numbers_of}
 use Rattle.theory.specs.Runs.{Inputs}
-use Rattle.theory.specs.declared.Levels.{Levels}
-use Rattle.theory.specs.declared.Levels.TheVariants.{One, Two}
-use Rattle.runs.specs.Promise.{Lent, Promised}
-use Rattle.destination.specs.Promise.{LentTo, PromisedTo}
+use Rattle.runs.specs.Promise.{Lent, OneLevelPromised, TwoLevelPromised}
+use Rattle.destination.specs.Promise.{LentTo, OneLevelPromisedTo, TwoLevelPromisedTo}
 use Rattle.route.specs.Routes.{RouteAnswer, route_numbers_of, RoutePromised}
 use Rattle.reader.specs.Promise.{PlanAnswer, plan_numbers_of, PlanPromised}
 use Rattle.dimacs.specs.Promise.{DimacsAnswer, dimacs_numbers_of, DimacsPromised}
@@ -17,33 +15,28 @@ use Rattle.answer_words.specs.Words.{run_words, route_words, read_words, dimacs_
 abbrev pub archive_version : ℕ
 archive_version = 2 * 1000 + 0
 
--- A run: its promise, and the numbers of its answer (document 01, "What a call returns"; document 02, paper 3).
-pub record RunHanded (L : Levels) (I : Inputs) (l l' : Lent) (numbers' : List ℕ) : Type 0 where
+-- A run, of either kind of heap and to a destination too: its promise, and the numbers of its answer (document 01, "What a call returns"; document
+-- 02, papers 3 and 7).
+pub record RunHanded (Promise : RunAnswer → Type 0) (numbers' : List ℕ) : Type 0 where
   pub answer : RunAnswer
-  pub promised : Promised L I answer l l'
+  pub promised : Promise answer
   pub numbers : numbers' ≡ run_words (numbers_of answer)
 
 -- The one-level run (document 01, "One-level heap").
 abbrev pub OneLevelHanded : Inputs → (l l' : Lent) → (numbers' : List ℕ) → Type 0
-OneLevelHanded = RunHanded One
+OneLevelHanded I l l' = RunHanded (λ r. OneLevelPromised I r l l')
 
 -- The two-level run (document 01, "Two-level heap").
 abbrev pub TwoLevelHanded : (K : ℕ) → Inputs → (l l' : Lent) → (numbers' : List ℕ) → Type 0
-TwoLevelHanded K = RunHanded (Two K)
-
--- A run to a destination: its promise, and the numbers of its answer (document 02, paper 7).
-pub record RunToHanded (L : Levels) (I : Inputs) (l l' : LentTo) (numbers' : List ℕ) : Type 0 where
-  pub answer : RunAnswer
-  pub promised : PromisedTo L I answer l l'
-  pub numbers : numbers' ≡ run_words (numbers_of answer)
+TwoLevelHanded K I l l' = RunHanded (λ r. TwoLevelPromised K I r l l')
 
 -- The one-level run to a destination (document 02, paper 7).
 abbrev pub OneLevelToHanded : Inputs → (l l' : LentTo) → (numbers' : List ℕ) → Type 0
-OneLevelToHanded = RunToHanded One
+OneLevelToHanded I l l' = RunHanded (λ r. OneLevelPromisedTo I r l l')
 
 -- The two-level run to a destination (document 02, paper 7).
 abbrev pub TwoLevelToHanded : (K : ℕ) → Inputs → (l l' : LentTo) → (numbers' : List ℕ) → Type 0
-TwoLevelToHanded K = RunToHanded (Two K)
+TwoLevelToHanded K I l l' = RunHanded (λ r. TwoLevelPromisedTo K I r l l')
 
 -- A route: its promise, and the numbers of its answer (document 01, "Routes" and "What a call returns").
 pub record RouteHanded (n source : ℕ) (starts heads parents : List ℕ) (destination : ℕ) (words words' numbers' : List ℕ) : Type 0 where

@@ -50,7 +50,9 @@ pub fn sizes(levels: Levels) -> [u32; 22]
     }
 }
 
-// The powers of K = segments, and a 0 at the last place, which is no bucket's.
+// The powers of K = segments, and a 0 at the last place, which is no bucket's. Not inlined: the power table would stand in the frame that one
+// level shares.
+#[inline(never)]
 fn two_level_sizes(segments: u32) -> [u32; 22]
     ensures { result ≡ two_level_sizes segments }
 {

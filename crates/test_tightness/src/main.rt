@@ -48,6 +48,14 @@ impl Heap {
         }
     }
 
+    // The words of work for 4,096 nodes.
+    fn work_words(self) -> usize {
+        match self {
+            Heap::OneLevel => 16448,
+            Heap::TwoLevel => 16768,
+        }
+    }
+
     // How many segments a removal may look at.
     fn segments(self, map: Map) -> u32 {
         match self {
@@ -104,7 +112,7 @@ fn answer_of(map: Map, heap: Heap) -> Result<Run, Fault> {
         &mut distances,
         &mut parents,
         &mut roster,
-        &mut work,
+        &mut work[..heap.work_words()],
     )
 }
 

@@ -17,7 +17,7 @@ use theory::Levels;
 type List = [u32; 4112];
 
 // The lists lent to a run.
-#[derive(Drop)]
+#[derive(Clone, Copy)]
 struct Lent {
     distances: List,
     parents: List,
@@ -30,7 +30,7 @@ struct Lent {
 }
 
 // What a run has answered, and the lists lent to it.
-#[derive(Drop)]
+#[derive(Clone, Copy)]
 pub struct Ran {
     answer: Result<Run, Fault>,
     lent: Lent,

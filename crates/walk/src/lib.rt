@@ -52,6 +52,47 @@ fn arrive(route: &mut [u32], source: Node, behind: usize) -> Result<usize, WalkE
     Err(WalkError::NoRoom)
 }
 
+// What a walk reads: a map without costs and holds, its source, and a parent word for each node. The walk calls itself once for each node,
+// and lends this on, so that a call takes one word for all of it and not eight.
+#[derive(Clone, Copy)]
+struct Lists<'a> {
+    n: usize,
+    source: Node,
+    starts: &'a [u32],
+    heads: &'a [u32],
+    parents: &'a [u32],
+}
+
+// The walk from node v back to the source over the lists: each call writes its own node once the calls before it have come back.
+fn walk_on<'a>(
+    lists: &Lists<'a>,
+    route: &mut [u32],
+    v: Node,
+    allowed: usize,
+    behind: usize,
+) -> Result<usize, WalkError>
+    requires { Walks lists.now.n lists.now.source.0 lists.now.starts.now lists.now.heads.now lists.now.parents.now v.0 allowed behind }
+    ensures answer { result ≡ walked_of (length route.old) behind
+        (walk_back lists.now.n lists.now.starts.now lists.now.heads.now lists.now.parents.now lists.now.source.0 allowed v.0) }
+    ensures list { route.new ≡ walked_words behind
+        (walk_back lists.now.n lists.now.starts.now lists.now.heads.now lists.now.parents.now lists.now.source.0 allowed v.0) route.old }
+{
+    if v.0 == lists.source.0 {
+        return arrive(route, lists.source, behind);
+    }
+    if allowed == 0 {
+        return Err(WalkError::Lost);
+    }
+    let parent = Arc(lists.parents[v.0 as usize]);
+    if !leads_to(lists.heads, parent, v) {
+        return Err(WalkError::Lost);
+    }
+    let tail = tail_of(lists.n, lists.starts, parent);
+    let nodes = walk_on(lists, route, tail, allowed - 1, behind + 1)?;
+    route[nodes] = v.0;
+    Ok(nodes + 1)
+}
+
 // The walk from node v back to the source: `allowed` arcs may still be taken, and `behind` nodes follow v. The nodes are written on
 // return, from the source on, and their number is given back.
 pub fn walk(
@@ -71,28 +112,12 @@ pub fn walk(
     ensures list { route.new ≡ walked_words behind
         (walk_back n starts.now heads.now parents.now source.0 allowed v.0) route.old }
 {
-    if v.0 == source.0 {
-        return arrive(route, source, behind);
-    }
-    if allowed == 0 {
-        return Err(WalkError::Lost);
-    }
-    let parent = Arc(parents[v.0 as usize]);
-    if !leads_to(heads, parent, v) {
-        return Err(WalkError::Lost);
-    }
-    let tail = tail_of(n, starts, parent);
-    let nodes = walk(
+    let lists = Lists {
         n,
         source,
         starts,
         heads,
         parents,
-        route,
-        tail,
-        allowed - 1,
-        behind + 1,
-    )?;
-    route[nodes] = v.0;
-    Ok(nodes + 1)
+    };
+    walk_on(&lists, route, v, allowed, behind)
 }

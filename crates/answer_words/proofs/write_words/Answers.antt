@@ -6,4 +6,4 @@ pub returns-in-Ok : goal.returns-in-Ok
 returns-in-Ok c = rw c.in-Ok.is refl
 
 pub returns-in-Err : goal.returns-in-Err
-returns-in-Err c = rw (c.in-Err.is, c.number_word.ensures) refl
+returns-in-Err c = rw (c.refused_words.ensures, c.in-Err.is, c.number.ensures) refl

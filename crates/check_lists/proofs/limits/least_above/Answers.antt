@@ -1,20 +1,11 @@
--- `check_lists::limits::least_above` meets its contract: the indices that are left decide.
+-- `check_lists::limits::least_above` meets its contract: the fault is where the first word above the limit is.
 use mathlib.Core.Path.{sym, ◌∙◌}
-use borrow.Author.Tests.{lt-ltb, le-ltb}
-use borrow.Author.Rules.{rules}
 use Rattle.check_lists.specs.Lists.{word_above}
-use Rattle.check_lists.proofs.Least.{none_left, fails_here, passes_here}
+use Rattle.check_lists.proofs.Least.{fault_found, no_fault_found}
 use Rattle.check_lists.proofs.limits.least_above.Goals as goal
 
-pub returns-then-words-i : goal.returns-then-words-i
-returns-then-words-i c =
-    sym (c.loop-i.invariant
-    ∙ fails_here _ (word_above c.args.limit c.args.words.now) c.loop-i.i c.args.last (search rules) (lt-ltb _ _ c.if-words-i.true))
+pub returns-in-Some : goal.returns-in-Some
+returns-in-Some c = sym (fault_found _ (word_above c.args.limit c.args.words.now) _ _ (sym c.first_above.ensures ∙ c.in-Some.is))
 
-pub loop-i-preserved : goal.loop-i-preserved
-loop-i-preserved c =
-    c.loop-i.invariant
-    ∙ passes_here _ (word_above c.args.limit c.args.words.now) c.loop-i.i c.args.last (search rules) (le-ltb _ _ c.if-words-i.false)
-
-pub returns : goal.returns
-returns c = sym (c.loop-i.invariant ∙ none_left _ (word_above c.args.limit c.args.words.now) c.loop-i.i c.args.last (search rules))
+pub returns-in-None : goal.returns-in-None
+returns-in-None c = sym (no_fault_found _ (word_above c.args.limit c.args.words.now) _ _ (sym c.first_above.ensures ∙ c.in-None.is))
