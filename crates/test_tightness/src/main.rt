@@ -4,6 +4,8 @@
 // the count, its bound, and how many thousandths of the bound it is.
 #![tactic(auto)]
 
+ghost use Rattle.std.specs.Prelude.{◌≤◌};
+
 use checks::Given;
 use model::{Counts, Fault, Node, Run};
 use std::io;
@@ -49,7 +51,9 @@ impl Heap {
     }
 
     // The words of work for 4,096 nodes.
-    fn work_words(self) -> usize {
+    fn work_words(self) -> usize
+        ensures { result ≤ 16768 }
+    {
         match self {
             Heap::OneLevel => 16448,
             Heap::TwoLevel => 16768,
