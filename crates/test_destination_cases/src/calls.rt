@@ -2,7 +2,7 @@
 // printed, so that every word written or left shows.
 use crate::printing::{print_answer, print_reversed, print_run};
 use checks::Given;
-use model::{Fault, Node, Run};
+use model::Node;
 use std::io;
 use test_rows::lists::front;
 use test_rows::map::{COSTS, HEADS, HOLDS, part};
@@ -38,30 +38,8 @@ impl From<Row> for Lent {
     }
 }
 
-// The lists of a run and of the reversed map.
-#[derive(Drop)]
-pub struct Lists {
-    pub distances: [u32; 4100],
-    pub parents: [u32; 4100],
-    pub roster: [u32; 4100],
-    pub work: [u32; 16772],
-    pub starts: [u32; 4100],
-    pub heads: [u32; 65540],
-    pub costs: [u32; 65540],
-    pub old_arcs: [u32; 65540],
-}
-
-// Row: one N,C,DESTINATION STARTS,HEADS,COSTS,HOLDS
-// Row: two N,C,DESTINATION STARTS,HEADS,COSTS,HOLDS K
-// A heap with one level has no segments.
-fn answer_of(
-    row: Row,
-    segments: Option<u32>,
-    lent: Lent,
-    map: &[u32],
-    lists: &mut Lists,
-) -> Result<Run, Fault> {
-    let given = Given {
+fn given_of(row: Row, map: &[u32]) -> Given<'_> {
+    Given {
         nodes: row.n1,
         ceiling: row.n2,
         source: Node(row.n3),
@@ -69,56 +47,46 @@ fn answer_of(
         heads: part(map, HEADS, row.n5),
         costs: part(map, COSTS, row.n6),
         holds: part(map, HOLDS, row.n7),
-    };
-    let distances = front(&mut lists.distances, lent.distances);
-    let parents = front(&mut lists.parents, lent.parents);
-    let roster = front(&mut lists.roster, lent.roster);
-    let work = front(&mut lists.work, lent.work);
-    let starts = front(&mut lists.starts, lent.starts);
-    let heads = front(&mut lists.heads, lent.heads);
-    let costs = front(&mut lists.costs, lent.costs);
-    let old_arcs = front(&mut lists.old_arcs, lent.old_arcs);
-    let levels = match segments {
-        None => Levels::One,
-        Some(segments) => Levels::Two { segments },
-    };
-    destination::run_to(
-        levels, given, distances, parents, roster, work, starts, heads, costs, old_arcs,
-    )
+    }
 }
 
-fn run_to(
-    rt: &impl Print,
-    row: Row,
-    segments: Option<u32>,
-    lent: Lent,
-    map: &[u32],
-) -> io::Result<()> {
-    let mut lists = Lists {
-        distances: [1000001; 4100],
-        parents: [2000003; 4100],
-        roster: [3000017; 4100],
-        work: [4000037; 16772],
-        starts: [3100001; 4100],
-        heads: [3200003; 65540],
-        costs: [3300001; 65540],
-        old_arcs: [3400043; 65540],
-    };
-    let answer = answer_of(row, segments, lent, map, &mut lists);
+// Row: one N,C,DESTINATION STARTS,HEADS,COSTS,HOLDS
+// Row: two N,C,DESTINATION STARTS,HEADS,COSTS,HOLDS K
+fn run_to(rt: &impl Print, row: Row, levels: Levels, lent: Lent, map: &[u32]) -> io::Result<()> {
+    let mut distances = [1000001; 4100];
+    let mut parents = [2000003; 4100];
+    let mut roster = [3000017; 4100];
+    let mut work = [4000037; 16772];
+    let mut starts = [3100001; 4100];
+    let mut heads = [3200003; 65540];
+    let mut costs = [3300001; 65540];
+    let mut old_arcs = [3400043; 65540];
+    let answer = destination::run_to(
+        levels,
+        given_of(row, map),
+        front(&mut distances, lent.distances),
+        front(&mut parents, lent.parents),
+        front(&mut roster, lent.roster),
+        front(&mut work, lent.work),
+        front(&mut starts, lent.starts),
+        front(&mut heads, lent.heads),
+        front(&mut costs, lent.costs),
+        front(&mut old_arcs, lent.old_arcs),
+    );
     print_answer(rt, answer)?;
-    print_run(rt, row.word, lent, &lists)?;
-    print_reversed(rt, row.word, lent, &lists)
+    print_run(rt, row.word, lent, &[&distances, &parents, &roster, &work])?;
+    print_reversed(rt, row.word, lent, &[&starts, &heads, &costs, &old_arcs])
 }
 
 // The rows that make a run; rows both and sums make two.
 pub fn run(rt: &impl Print, row: Row, lent: Lent, map: &[u32]) -> io::Result<()> {
-    let segments = Some(row.n8);
+    let two = Levels::Two { segments: row.n8 };
     match row.word {
-        b'o' => run_to(rt, row, None, lent, map),
-        b't' => run_to(rt, row, segments, lent, map),
+        b'o' => run_to(rt, row, Levels::One, lent, map),
+        b't' => run_to(rt, row, two, lent, map),
         _ => {
-            run_to(rt, row, None, lent, map)?;
-            run_to(rt, row, segments, lent, map)
+            run_to(rt, row, Levels::One, lent, map)?;
+            run_to(rt, row, two, lent, map)
         }
     }
 }

@@ -1,5 +1,5 @@
 // What a row gives: the answer, the words lent, and sums of all words.
-use crate::calls::{Lent, Lists};
+use crate::calls::Lent;
 use model::{Fault, Run};
 use std::io;
 use test_rows::map::part;
@@ -44,28 +44,30 @@ fn print_lists_sums(rt: &impl Print, lists: &[&[u32]]) -> io::Result<()> {
 }
 
 // Of a row sums the sums alone, and of the work list, of which most words are 0, in every row.
-pub fn print_run(rt: &impl Print, word: u8, lent: Lent, lists: &Lists) -> io::Result<()> {
+pub fn print_run(rt: &impl Print, word: u8, lent: Lent, lists: &[&[u32]; 4]) -> io::Result<()> {
+    let [distances, parents, roster, _] = *lists;
     if word != b's' {
-        print_list(rt, b"\ndistances", &lists.distances, lent.distances)?;
-        print_list(rt, b"\nparents", &lists.parents, lent.parents)?;
-        print_list(rt, b"\nroster", &lists.roster, lent.roster)?;
+        print_list(rt, b"\ndistances", distances, lent.distances)?;
+        print_list(rt, b"\nparents", parents, lent.parents)?;
+        print_list(rt, b"\nroster", roster, lent.roster)?;
     }
-    print_lists_sums(
-        rt,
-        &[&lists.distances, &lists.parents, &lists.roster, &lists.work],
-    )
+    print_lists_sums(rt, lists)
 }
 
-pub fn print_reversed(rt: &impl Print, word: u8, lent: Lent, lists: &Lists) -> io::Result<()> {
+// The lists of the reversed map.
+pub fn print_reversed(
+    rt: &impl Print,
+    word: u8,
+    lent: Lent,
+    lists: &[&[u32]; 4],
+) -> io::Result<()> {
+    let [starts, heads, costs, old_arcs] = *lists;
     if word != b's' {
-        print_list(rt, b"\nstarts", &lists.starts, lent.starts)?;
-        print_list(rt, b"\nheads", &lists.heads, lent.heads)?;
-        print_list(rt, b"\ncosts", &lists.costs, lent.costs)?;
-        print_list(rt, b"\narcs", &lists.old_arcs, lent.old_arcs)?;
+        print_list(rt, b"\nstarts", starts, lent.starts)?;
+        print_list(rt, b"\nheads", heads, lent.heads)?;
+        print_list(rt, b"\ncosts", costs, lent.costs)?;
+        print_list(rt, b"\narcs", old_arcs, lent.old_arcs)?;
     }
-    print_lists_sums(
-        rt,
-        &[&lists.starts, &lists.heads, &lists.costs, &lists.old_arcs],
-    )?;
+    print_lists_sums(rt, lists)?;
     rt.write_all(b"\n")
 }
