@@ -4,9 +4,9 @@
 // Where the part that is lent begins.
 const FIRST: usize = 8;
 
-// Different from byte to byte, and no byte of a planning file.
+// Different from byte to byte, and no byte of a planning file. No buffer has 2^32 bytes, and the remainder of a short word costs less.
 fn junk(i: usize) -> u8 {
-    (i % 61 + 128) as u8
+    ((i % 4294967296) as u32 % 61 + 128) as u8
 }
 
 pub fn fill(buffer: &mut [u8]) {

@@ -30,7 +30,8 @@ pub fn print_sums<T: Copy + Into<u64>>(rt: &impl Print, list: &[T]) -> io::Resul
     let mut weighted: u64 = 0;
     for word in list {
         plain = plus(plain, (*word).into());
-        weighted = plus(weighted, plain);
+        // The plain sum first: the other way round the compiled loop copies one sum more.
+        weighted = plus(plain, weighted);
     }
     print_number(rt, plain)?;
     print_number(rt, weighted)
