@@ -85,6 +85,11 @@ fn check_arc(passed: Passed, lent: Lent, tail: u64, head: u64, cost: u64) -> Res
     Ok(())
 }
 
+// No number of an arc that is taken is longer.
+fn short(number: u64) -> u32 {
+    (number % 4294967296) as u32
+}
+
 // A line more is passed, unless it is refused.
 fn pass(passed: Passed, lent: Lent, line: Line, arcs: &mut Arcs) -> Result<Passed, Refusal> {
     let more = Passed {
@@ -105,9 +110,9 @@ fn pass(passed: Passed, lent: Lent, line: Line, arcs: &mut Arcs) -> Result<Passe
         Kind::Arc { tail, head, cost } => {
             check_arc(passed, lent, tail, head, cost)?;
             let arc = Arc {
-                tail: words::minus(tail, 1),
-                head: words::minus(head, 1),
-                cost,
+                tail: short(words::minus(tail, 1)),
+                head: short(words::minus(head, 1)),
+                cost: short(cost),
             };
             arcs::keep(arcs, passed.read, arc);
             Ok(Passed {
