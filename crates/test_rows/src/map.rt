@@ -33,12 +33,12 @@ pub fn word_at(map: &[u32], at: usize) -> u32 {
 // Row: words LIST PLACE WORD,WORD,..
 pub fn put_words(map: &mut Map, row: Row, line: &[u8]) {
     let mut next = row.words;
-    for word in map.iter_mut().skip(place(row.n1, row.n2)) {
+    for i in place(row.n1, row.n2)..map.len() {
         if next >= line.len() {
             break;
         }
         let read = crate::rows::field_at(line, next);
-        *word = read.value;
+        map[i] = read.value;
         next = read.next;
     }
 }
@@ -71,10 +71,10 @@ fn drawn(word: u32, drawing: bool, divisor: u32, modulus: u32) -> u32 {
 pub fn spread(map: &mut Map, row: Row) {
     let drawing = row.word == b'd';
     let from = place(row.n1, row.n2);
-    let end = place(row.n1, row.n3);
+    let end = place(row.n1, row.n3).min(map.len());
     let mut word = row.n4;
-    for filled in map.iter_mut().take(end).skip(from) {
-        *filled = drawn(word, drawing, row.n5, row.n6);
+    for i in from..end {
+        map[i] = drawn(word, drawing, row.n5, row.n6);
         word = next(word, drawing, row.n5);
     }
 }

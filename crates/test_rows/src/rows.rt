@@ -37,11 +37,12 @@ fn longer(value: u32, byte: u8) -> u32 {
 // The field that starts at a byte; one that is not there counts as 0.
 pub fn field_at(line: &[u8], at: usize) -> Field {
     let mut value: u32 = 0;
-    for (i, byte) in line.iter().enumerate().skip(at) {
-        if *byte < b'0' {
+    for i in at..line.len() {
+        let byte = line[i];
+        if byte < b'0' {
             return Field { value, next: i + 1 };
         }
-        value = longer(value, *byte);
+        value = longer(value, byte);
     }
     Field {
         value,
