@@ -12,8 +12,8 @@ pub fn put(file: &mut [u8], at: usize, byte: u8) -> usize {
 // The bytes from a place on.
 pub fn append(file: &mut [u8], at: usize, bytes: &[u8], from: usize) -> usize {
     let mut next = at;
-    for byte in bytes.get(from..).unwrap_or(&[]) {
-        next = put(file, next, *byte);
+    for i in from..bytes.len() {
+        next = put(file, next, bytes[i]);
     }
     next
 }
