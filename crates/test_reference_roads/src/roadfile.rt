@@ -1,5 +1,5 @@
 // A road file read into the lists of a map, or what it is refused for (document 02, paper 1).
-use crate::arcs::{Arc, Arcs};
+use crate::arcs::{Arc, Arcs, ArcsOf, ShortArc};
 use crate::lines::{Kind, Line};
 use crate::{arcs, lines};
 use test_reference_map::map::Lists;
@@ -91,7 +91,12 @@ fn short(number: u64) -> u32 {
 }
 
 // A line more is passed, unless it is refused.
-fn pass(passed: Passed, lent: Lent, line: Line, arcs: &mut Arcs) -> Result<Passed, Refusal> {
+fn pass<A: Copy + From<ShortArc>>(
+    passed: Passed,
+    lent: Lent,
+    line: Line,
+    arcs: &mut ArcsOf<A>,
+) -> Result<Passed, Refusal> {
     let more = Passed {
         lines: words::sum(passed.lines, 1),
         at: line.next,
@@ -109,12 +114,12 @@ fn pass(passed: Passed, lent: Lent, line: Line, arcs: &mut Arcs) -> Result<Passe
         }
         Kind::Arc { tail, head, cost } => {
             check_arc(passed, lent, tail, head, cost)?;
-            let arc = Arc {
+            let arc = ShortArc {
                 tail: short(words::minus(tail, 1)),
                 head: short(words::minus(head, 1)),
                 cost: short(cost),
             };
-            arcs::keep(arcs, passed.read, arc);
+            arcs::keep_of(arcs, passed.read, A::from(arc));
             Ok(Passed {
                 read: words::sum(passed.read, 1),
                 ..more
@@ -124,10 +129,14 @@ fn pass(passed: Passed, lent: Lent, line: Line, arcs: &mut Arcs) -> Result<Passe
 }
 
 // At the end of the file: 19 with the last line if the `p` line or an arc lacks.
-fn finish(passed: Passed, arcs: &Arcs, lists: &mut Lists) -> Result<Size, Refusal> {
+fn finish<A: Copy + Into<Arc>>(
+    passed: Passed,
+    arcs: &ArcsOf<A>,
+    lists: &mut Lists,
+) -> Result<Size, Refusal> {
     match passed.told {
         Some(told) if passed.read >= told.arcs => {
-            arcs::group(arcs, told.nodes, told.arcs, lists);
+            arcs::group_of(arcs, told.nodes, told.arcs, lists);
             Ok(told)
         }
         _ => refuse(19, words::most(passed.lines, 1)),
@@ -136,6 +145,15 @@ fn finish(passed: Passed, arcs: &Arcs, lists: &mut Lists) -> Result<Size, Refusa
 
 // What a file's bytes give; the lists are those of its map if it is read.
 pub fn read(bytes: &[u8], lent: Lent, arcs: &mut Arcs, lists: &mut Lists) -> Result<Size, Refusal> {
+    read_of(bytes, lent, arcs, lists)
+}
+
+pub fn read_of<A: Copy + From<ShortArc> + Into<Arc>>(
+    bytes: &[u8],
+    lent: Lent,
+    arcs: &mut ArcsOf<A>,
+    lists: &mut Lists,
+) -> Result<Size, Refusal> {
     let end = bytes.len() as u64;
     let mut passed = Passed {
         lines: 0,
@@ -154,4 +172,32 @@ pub fn read(bytes: &[u8], lent: Lent, arcs: &mut Arcs, lists: &mut Lists) -> Res
         passed = pass(passed, lent, line, arcs)?;
     }
     finish(passed, arcs, lists)
+}
+
+#[cfg(test)]
+mod tests {
+    use super::*;
+    use test_reference_map::map;
+
+    // One arc, from node 1 to node 2 of three, at cost 5.
+    #[test]
+    fn long_arcs_are_read(rt: HostRuntime) {
+        let lent = Lent {
+            ceiling: 5,
+            starts: 4,
+            heads: 1,
+            costs: 1,
+        };
+        let mut arcs = arcs::none();
+        let mut lists = [0; 139296];
+        let size = read(b"p sp 3 1\na 1 2 5\n", lent, &mut arcs, &mut lists);
+        assert!(rt; size == Ok(Size { nodes: 3, arcs: 1 }));
+        assert_eq!(rt; arcs[0].tail, 0);
+        assert_eq!(rt; arcs[0].head, 1);
+        assert_eq!(rt; arcs[0].cost, 5);
+        assert_eq!(rt; map::arcs(&lists, 0), 0..1);
+        assert_eq!(rt; map::arcs(&lists, 1), 1..1);
+        assert_eq!(rt; map::head(&lists, 0), 1);
+        assert_eq!(rt; map::cost(&lists, 0), 5);
+    }
 }

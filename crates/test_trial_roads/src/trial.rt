@@ -59,14 +59,14 @@ fn answer(road: Road, bytes: &[u8]) -> Answered {
 }
 
 fn expected(road: Road, bytes: &[u8], lists: &mut Lists) -> Outcome {
-    let mut arcs = arcs::none();
+    let mut arcs = arcs::none_of::<arcs::ShortArc>();
     let lent = Lent {
         ceiling: u64::from(road.given),
         starts: u64::from(road.starts),
         heads: u64::from(road.heads),
         costs: u64::from(road.costs),
     };
-    roadfile::read(bytes, lent, &mut arcs, lists)
+    roadfile::read_of(bytes, lent, &mut arcs, lists)
 }
 
 // How many words of starts, and of heads and costs, are filled: none if the file is refused.
